@@ -1,0 +1,4 @@
+pub mod Cells
+pub mod SectionLaws
+pub mod SectionMeaning
+pub mod Worked

@@ -1,0 +1,3 @@
+pub mod Holes
+pub mod ProductKept
+pub mod Telling
