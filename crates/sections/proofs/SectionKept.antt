@@ -1,38 +1,27 @@
 -- Sections keep their meaning. Assumes nothing.
-use mathlib.Core.Path.{_≡_, refl, ap}
-use mathlib.Core.Bool.{Bool, true, false, cond, _&&_}
-use mathlib.Core.List.{List, [], _∷_}
-use Prim.Native.Nat.{ℕ, zero, suc, _+_, _-_, _*_, _<_, _≤_}
+use mathlib.Core.Path.{_≡_, ap}
+use mathlib.Core.List.{List}
+use Prim.Native.Nat.{ℕ, _+_, _-_, _*_, _<_, _≤_}
 use native.Mathlib.Decide.{decLt}
 use native.Mathlib.Nat.{mul-le-mul-right}
 use native.Mathlib.Omega.{arith}
 use lib.Dec.{eqb, ltb, leb}
-use lib.ListN.{length, getD}
+use lib.ListN.{length}
 use borrow.Author.Tests.{leb-true}
 use Rattle.std.specs.declared.option.Option.{Option}
 use Rattle.std.specs.declared.option.Option.the-variants.{Some, None}
-use Rattle.std.specs.declared.result.Result.{Result}
-use Rattle.std.specs.declared.result.Result.the-variants.{Ok, Err}
-use Rattle.theory.specs.declared.fault.Flaw.{Flaw}
-use Rattle.theory.specs.declared.fault.Flaw.the-variants.{Cut, Kind, Limit, TooMany}
-use Rattle.theory.specs.declared.fault.PatternFault.{PatternFault}
-use Rattle.theory.specs.Meaning.{Filling, Inside, Kept, Shared, Single, Tells, index-of, largest-index}
-use Rattle.theory.specs.Reading.{byte, word, provided}
+use Rattle.theory.specs.declared.fault.Flaw.the-variants.{Cut, Kind, Limit}
+use Rattle.theory.specs.Meaning.{Inside, Kept, Shared, Single, zeros}
+use Rattle.theory.specs.Reading.{byte, word}
+use Rattle.theory.proofs.Holes.{zeros-fill}
+use Rattle.theory.proofs.Inside.{provided-inside}
 use Rattle.theory.proofs.Telling.{tells-eqb}
 use Rattle.sections.specs.declared.section.Section.{Section}
 use Rattle.sections.specs.declared.pattern.SectionPattern.{SectionPattern}
-use Rattle.sections.specs.Cells.{In, LeastShared, shown}
-use Rattle.sections.specs.SectionMeaning.{first-cell, section-filled, hole-allowed, built, body, section-reads, section-meaning}
+use Rattle.sections.specs.Cells.{LeastShared, shown}
+use Rattle.sections.specs.SectionMeaning.{first-cell, hole-allowed, built, body, section-reads, section-meaning}
 use Rattle.sections.proofs.Cell.{first-in, last-in}
 use Rattle.sections.proofs.Listed.{has-tells, within-tells, shown-least}
-
--- each test of reading lies inside
-provided-inside : {P : Type 0} (file : List ℕ) (at : ℕ) (met : Bool) (f : Flaw) (r : Result (P × ℕ) PatternFault) → at ≤ length file → (met ≡ true → Inside file at r) → Inside file at (provided met f at r)
-provided-inside file at true f r h next = next refl
-provided-inside file at false Cut r h next = omega arith
-provided-inside file at false Kind r h next = omega arith
-provided-inside file at false Limit r h next = omega arith
-provided-inside file at false TooMany r h next = omega arith
 
 built-inside : (file : List ℕ) (at hole scale offset step count : ℕ) (d : Dec (0 < step)) (e : Dec (0 < count)) → at + 9 ≤ length file → Inside file at (built at hole scale offset step count d e)
 built-inside file at hole scale offset step count (yes a) (yes b) h = omega arith
@@ -55,19 +44,6 @@ shared-from a b (Some x) (p, (q, l)) = (p, q)
 one-single : (p : SectionPattern) → p .count ≡ 1 → Single section-meaning p
 one-single p e is f =
     (first-cell p is, (first-in (first-cell p is) (p .step) (p .count) (p .some), λ y (t, (l, a)). let v : t ≡ 0 = omega arith in omega (arith, ap (λ (z : ℕ). p .step * z) v)))
-
-zeros : List ℕ
-zeros = 0 ∷ 0 ∷ 0 ∷ []
-
-zeros-fill : Filling zeros
-unfolding zeros
-zeros-fill = (refl, small)
-  where
-    small : (k : ℕ) → getD (0 ∷ 0 ∷ 0 ∷ []) k 0 ≤ largest-index
-    small zero = omega arith
-    small (suc zero) = omega arith
-    small (suc (suc zero)) = omega arith
-    small (suc (suc (suc k))) = omega arith
 
 single-one : (p : SectionPattern) → Single section-meaning p → p .count ≡ 1
 single-one p h =

@@ -1,8 +1,6 @@
-// Examples of sections and of products of sections, at their limits and one beyond.
+// Examples of sections, at their limits and one beyond.
 #[cfg(test)]
 mod filling;
-#[cfg(test)]
-mod products;
 #[cfg(test)]
 mod reading;
 #[cfg(test)]

@@ -1,11 +1,20 @@
--- The index that fills a hole. Assumes nothing.
+-- Fillings, and the index that fills a hole. Assumes nothing.
 use mathlib.Core.Path.{_≡_, refl, sym}
 use mathlib.Core.List.{List}
 use Prim.Native.Nat.{ℕ, zero, suc, _≤_}
 use native.Mathlib.Omega.{arith}
 use lib.ListN.{length, getD}
 use Rattle.std.proofs.shelf.Lists.{getD-past}
-use Rattle.theory.specs.Meaning.{hole-count, Filling, index-of, largest-index}
+use Rattle.theory.specs.Meaning.{hole-count, Filling, index-of, largest-index, zeros}
+
+pub zeros-fill : Filling zeros
+zeros-fill = (refl, small)
+  where
+    small : (k : ℕ) → getD zeros k 0 ≤ largest-index
+    small zero = omega arith
+    small (suc zero) = omega arith
+    small (suc (suc zero)) = omega arith
+    small (suc (suc (suc k))) = omega arith
 
 -- past the last foreach there is no index
 pub no-index : (is : List ℕ) (hole : ℕ) → length is ≡ hole-count → (hole ≡ 1 → ⊥) → (hole ≡ 2 → ⊥) → (hole ≡ 3 → ⊥) → 0 ≡ index-of is hole

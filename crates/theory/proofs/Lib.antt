@@ -1,3 +1,4 @@
 pub mod Holes
+pub mod Inside
 pub mod ProductKept
 pub mod Telling

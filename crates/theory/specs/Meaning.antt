@@ -7,7 +7,7 @@
 --           cell a value of the program stands for
 use mathlib.Core.Path.{_≡_}
 use mathlib.Core.Bool.{Bool, true, false}
-use mathlib.Core.List.{List}
+use mathlib.Core.List.{List, [], _∷_}
 use Prim.Native.Nat.{ℕ, zero, suc, _≤_, _<_}
 use lib.ListN.{length, getD}
 use Rattle.std.specs.declared.result.Result.{Result}
@@ -28,6 +28,10 @@ hole-count = 3
 -- an index for each hole, the outermost foreach first
 abbrev pub Filling : List ℕ → Type 0
 Filling is = (length is ≡ hole-count) × ((k : ℕ) → getD is k 0 ≤ largest-index)
+
+-- the filling whose every index is 0
+abbrev pub zeros : List ℕ
+zeros = 0 ∷ 0 ∷ 0 ∷ []
 
 -- the index that fills a hole: holes count from 1, and hole 0, which is none, has index 0
 abbrev pub index-of : List ℕ → ℕ → ℕ

@@ -1,5 +1,5 @@
 ghost use mathlib.Core.Path.{_≡_};
-ghost use Rattle.theory.specs.Fault.{pattern-told};
+ghost use Rattle.theory.specs.Fault.{flaw-number, pattern-told};
 use crate::told::Layer;
 use crate::told::Told;
 
@@ -16,6 +16,20 @@ pub enum Flaw {
     TooMany,
 }
 
+impl Flaw {
+    /// The number under which a fault of this sort is told.
+    pub fn number(&self) -> u8
+        ensures { λ r. ⌜ r ≡ flaw-number (now (self .entry)) ⌝ }
+    {
+        match self {
+            Flaw::Cut => 2,
+            Flaw::Kind => 3,
+            Flaw::Limit => 4,
+            Flaw::TooMany => 5,
+        }
+    }
+}
+
 /// A fault inside a pattern: what is wrong, and the place of the record.
 #[derive(Clone, Copy)]
 pub struct PatternFault {
@@ -28,14 +42,8 @@ impl PatternFault {
     pub fn told(&self) -> Told
         ensures { λ r. ⌜ r ≡ pattern-told (now (self .entry)) ⌝ }
     {
-        let number = match self.flaw {
-            Flaw::Cut => 2,
-            Flaw::Kind => 3,
-            Flaw::Limit => 4,
-            Flaw::TooMany => 5,
-        };
         Told {
-            number,
+            number: self.flaw.number(),
             layer: Layer::Theory,
             place: self.place,
             strand: 0,

@@ -1,0 +1,12 @@
+pub mod Bits
+pub mod CellArray
+pub mod CommonSteps
+pub mod Entries
+pub mod Greedy
+pub mod GreedySteps
+pub mod Inclusion
+pub mod Lists
+pub mod Shared
+pub mod Sole
+pub mod Steps
+pub mod Unused

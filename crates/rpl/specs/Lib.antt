@@ -1,0 +1,9 @@
+pub mod Cell
+pub mod Exact
+pub mod Greedy
+pub mod Inclusion
+pub mod Lists
+pub mod Paths
+pub mod Sharing
+pub mod Singles
+pub mod Table
