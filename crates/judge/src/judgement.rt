@@ -1,21 +1,19 @@
 ghost use mathlib.Core.Path.{_≡_};
 ghost use Rattle.std.specs.declared.option.Option.the-variants.{Some};
 ghost use Rattle.judge.specs.Judged.{line, refusal-told};
+use recipe::Fault;
 use std::fmt;
 use theory::Layer;
 use theory::Told;
 use theory::ToldDisplay;
-
-// Said of an input that is not at fault as far as it is looked at.
-const UNREAD: &str = "not built yet: reading, certifying and running a recipe";
 
 /// Why an input is refused.
 #[derive(Clone, Copy)]
 pub enum Refusal {
     /// The theory byte is missing, or not 1 to 4.
     UnknownTheory,
-    /// The file is longer than 16,384 bytes.
-    FileTooLong,
+    /// The file is no recipe of the theory.
+    Unread(Fault),
 }
 
 impl Refusal {
@@ -30,12 +28,7 @@ impl Refusal {
                 place: 0,
                 strand: 0,
             },
-            Refusal::FileTooLong => Told {
-                number: 1,
-                layer: Layer::Reader,
-                place: 0,
-                strand: 0,
-            },
+            Refusal::Unread(fault) => fault.told(),
         }
     }
 }
@@ -44,10 +37,11 @@ impl Refusal {
 #[derive(Clone, Copy)]
 pub enum Judgement {
     Refused(Refusal),
-    /// Neither the theory byte nor the length is at fault; recipes are not read yet.
-    Unread,
+    /// The file reads as a recipe with so many cells and so many strands.
+    Read(u8, u16),
 }
 
+/// The printed line.
 pub impl fmt::Display for Judgement as JudgementDisplay {
     ghost shown = { λ j. Some (line j) };
 
@@ -57,7 +51,12 @@ pub impl fmt::Display for Judgement as JudgementDisplay {
                 let told = refusal.told();
                 write!(f, "{told}")
             }
-            Judgement::Unread => write!(f, "{UNREAD}"),
+            Judgement::Read(cells, strands) => {
+                write!(
+                    f,
+                    "read: {cells} cells, {strands} strands; certifying is not built yet"
+                )
+            }
         }
     }
 }

@@ -7,12 +7,18 @@ const UNKNOWN: &str = "refused 20 at 0 strand 0";
 
 const TOO_LONG: &str = "refused 1 at 0 strand 0";
 
-const UNREAD: &str = "not built yet: reading, certifying and running a recipe";
+const NO_KIND: &str = "refused 2 at 0 strand 0";
 
-// Whether this line is said of a theory byte and a file of so many zeros.
-fn says(heap: Global, theory: u8, zeros: usize, line: &str) -> Result<(), Fail> {
+const SPARE: &str = "refused 8 at 1 strand 0";
+
+// Whether this line is said of a theory byte and a file: an End, and as many zeros as make up the
+// length.
+fn says(heap: Global, theory: u8, length: usize, line: &str) -> Result<(), Fail> {
     let mut input = vec![in heap; theory]?;
-    for _ in 0..zeros {
+    if length > 0 {
+        input.push(0x3F)?;
+    }
+    for _ in 1..length {
         input.push(0)?;
     }
     let said = judge(&input).to_string(heap)?;
@@ -28,7 +34,7 @@ fn theories_are_1_to_4(rt: LibcRuntime) -> Result<(), Fail> {
         says(heap, theory, 16_385, UNKNOWN)?;
     }
     for theory in 1..5 {
-        says(heap, theory, 0, UNREAD)?;
+        says(heap, theory, 0, NO_KIND)?;
     }
     Ok(())
 }
@@ -37,7 +43,7 @@ fn theories_are_1_to_4(rt: LibcRuntime) -> Result<(), Fail> {
 fn files_have_at_most_16384_bytes(rt: LibcRuntime) -> Result<(), Fail> {
     let heap = rt.alloc();
     for theory in 1..5 {
-        says(heap, theory, 16_384, UNREAD)?;
+        says(heap, theory, 16_384, SPARE)?;
         says(heap, theory, 16_385, TOO_LONG)?;
     }
     Ok(())

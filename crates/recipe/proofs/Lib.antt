@@ -1,0 +1,9 @@
+pub mod Accepted
+pub mod BlockLaws
+pub mod CellLaws
+pub mod HeadLaws
+pub mod Once
+pub mod RecipeLaws
+pub mod RecordLaws
+pub mod RingLaws
+pub mod Table

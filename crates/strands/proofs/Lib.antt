@@ -1,0 +1,4 @@
+pub mod Counting
+pub mod Left
+pub mod Parts
+pub mod Rows

@@ -1,0 +1,4 @@
+pub mod Finding
+pub mod Located
+pub mod StrandLaws
+pub mod Strands

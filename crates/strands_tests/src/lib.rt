@@ -1,0 +1,3 @@
+// Examples of strand numbers.
+#[cfg(test)]
+mod numbers;
