@@ -1,4 +1,6 @@
 // Euclid's rule: the greatest common divisor, and the least number of steps to a multiple.
+#![tactic(auto)]
+
 ghost use Rattle.std.specs.Prelude.{◌≡◌, ◌<◌, ◌≤◌};
 ghost use Rattle.std.specs.Int.{◌∣◌};
 ghost use Rattle.euclid.specs.Divisor.{Greatest, euclid};

@@ -1,7 +1,7 @@
 ghost use Rattle.std.specs.Prelude.{◌≡◌, Some};
 ghost use Rattle.judge.specs.Judged.{line, refusal_told};
 
-use records::Fault;
+use recipe::Fault;
 use std::fmt;
 use theory::{Layer, Told};
 

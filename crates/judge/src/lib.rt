@@ -1,4 +1,6 @@
 // From the bytes that `verdict` is given to what it says of them.
+#![tactic(auto)]
+
 mod input;
 mod judgement;
 mod theories;

@@ -1,4 +1,6 @@
 // Paths as a region theory: patterns, their reading and filling, and the theory's answers.
+#![tactic(auto)]
+
 mod filling;
 mod laws;
 mod paths_theory;

@@ -1,4 +1,6 @@
 // Puts the worst questions about paths many thousand times, and prints how often the answer is yes.
+#![tactic(auto)]
+
 use rpl::{Element, Key, Part, has, share, within};
 
 const ROUNDS: u32 = 50000;

@@ -4,18 +4,29 @@ use Rattle.theory.specs.declared.fault.Flaw.TheVariants.{Cut, Kind, TooMany}
 use Rattle.theory.specs.Meaning.{Meaning}
 use Rattle.theory.specs.Reading.{byte}
 use Rattle.recipe.specs.declared.extent.Extent.{Extent}
-use Rattle.records.specs.declared.fault.Fault.{Fault}
-use Rattle.records.specs.declared.fault.Fault.TheVariants.{Record}
-use Rattle.records.specs.declared.head.Spot.{Spot}
-use Rattle.records.specs.declared.head.Spot.TheVariants.{Effects, Statements as InBlock, Guarded}
-use Rattle.records.specs.declared.kinds.Kind.{Kind as RecordKind}
-use Rattle.recipe.specs.Blocks.{block_at, branches, effects, with_effect}
-use Rattle.records.specs.Heads.{begins}
-use Rattle.records.specs.Records.{mapped, record_at, then}
-use Rattle.recipe.specs.Extents.{added, capped, ending, extent}
-use Rattle.records.specs.Kinds.{allowed, kind_of}
-use Rattle.records.specs.Rec.{Rec}
-use Rattle.recipe.specs.Tree.{Effect, Block, Blocks, none, more, size, branched}
+use Rattle.recipe.specs.declared.fault.Fault.{Fault}
+use Rattle.recipe.specs.declared.fault.Fault.TheVariants.{Record}
+use Rattle.recipe.specs.declared.head.Spot.{Spot}
+use Rattle.recipe.specs.declared.head.Spot.TheVariants.{Effects, Statements as InBlock, Guarded}
+use Rattle.recipe.specs.declared.kinds.Kind.{Kind as RecordKind}
+use Rattle.recipe.specs.Blocks.{begins, block_at, branches, effects, may_stand, with_effect}
+use Rattle.recipe.specs.Extents.{added, capped, ending, extent, mapped}
+use Rattle.recipe.specs.Kinds.{allowed, kind_of}
+use Rattle.recipe.specs.Records.{record_at, then}
+use Rattle.recipe.specs.Tree.{Rec, Effect, Block, Blocks, none, more, size, branched}
+
+module _ (file : List ℕ) (spot : Spot) (at : ℕ) where
+  pub begins_past : length file ≤ at → false ≡ begins file spot at
+  unfolding begins
+  begins_past h = rw (le-ltb at (length file) h)
+
+  pub begins_none : at < length file → kind_of (byte file at) ≡ None → false ≡ begins file spot at
+  unfolding begins
+  begins_none h e = rw (lt-ltb at (length file) h, e)
+
+  pub begins_some : at < length file → (k : RecordKind) → kind_of (byte file at) ≡ Some k → allowed spot k ≡ begins file spot at
+  unfolding begins
+  begins_some h k e = rw (lt-ltb at (length file) h, e)
 
 -- where what was read ends
 module _ {X Y : Type 0} where

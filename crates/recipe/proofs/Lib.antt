@@ -1,11 +1,9 @@
 pub mod Accepted
 pub mod BlockLaws
 pub mod CellLaws
-pub mod Lying
+pub mod HeadLaws
 pub mod Once
-pub mod Parts
-pub mod Reading
 pub mod RecipeLaws
+pub mod RecordLaws
 pub mod RingLaws
-pub mod Rise
-pub mod Whole
+pub mod Table

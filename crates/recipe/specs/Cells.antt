@@ -2,12 +2,12 @@
 use Rattle.std.specs.Prelude.{ℕ, zero, suc, Bool, true, false, cond, List, [], ◌∷◌, ◌++◌, is_some, Some, None, Ok, Err, Option, Result}
 use Rattle.theory.specs.declared.fault.Flaw.TheVariants.{Kind, TooMany}
 use Rattle.theory.specs.Meaning.{Meaning}
-use Rattle.records.specs.declared.fault.Fault.{Fault}
-use Rattle.records.specs.declared.fault.Fault.TheVariants.{Record, Repeated}
-use Rattle.records.specs.declared.head.Spot.TheVariants.{Cells}
-use Rattle.records.specs.Heads.{begins}
-use Rattle.records.specs.Records.{record_at, then}
-use Rattle.records.specs.Rec.{cell_pattern, Rec, cell, effect, operation, when, fork, end}
+use Rattle.recipe.specs.declared.fault.Fault.{Fault}
+use Rattle.recipe.specs.declared.fault.Fault.TheVariants.{Record, Repeated}
+use Rattle.recipe.specs.declared.head.Spot.TheVariants.{Cells}
+use Rattle.recipe.specs.Blocks.{begins}
+use Rattle.recipe.specs.Records.{record_at, then}
+use Rattle.recipe.specs.Tree.{Rec, cell, effect, operation, when, fork, end}
 
 abbrev pub most_cells : ℕ
 most_cells = 128
@@ -25,6 +25,15 @@ abbrev pub at_number : {X : Type 0} → List X → ℕ → Option X
 at_number [] k = None
 at_number (x ∷ xs) zero = Some x
 at_number (x ∷ xs) (suc k) = at_number xs k
+
+-- the pattern of a Cell
+abbrev pub cell_pattern : {P : Type 0} → Rec P → Option P
+cell_pattern (cell p) = Some p
+cell_pattern (effect mode p) = None
+cell_pattern (operation o) = None
+cell_pattern (when r) = None
+cell_pattern (fork f) = None
+cell_pattern end = None
 
 module _ {P R C : Type 0} (m : Meaning P R C) where
   -- where a cell stands in a list, counted from 0

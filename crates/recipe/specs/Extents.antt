@@ -1,7 +1,7 @@
 -- Where parts of a file end, and how many strands they have. Assumes nothing.
 use Rattle.std.specs.Prelude.{ℕ, ◌+◌, min, List, Some, None, Ok, Err, Option, Result}
 use Rattle.recipe.specs.declared.extent.Extent.{Extent}
-use Rattle.records.specs.declared.fault.Fault.{Fault}
+use Rattle.recipe.specs.declared.fault.Fault.{Fault}
 use Rattle.recipe.specs.Tree.{Statement, forked}
 
 abbrev pub most_strands : ℕ
@@ -10,6 +10,10 @@ most_strands = 1024
 -- strands are counted up to one more than is allowed
 abbrev pub capped : ℕ → ℕ
 capped n = min n 1025
+
+abbrev pub mapped : {X Y : Type 0} → (X → Y) → Result X Fault → Result Y Fault
+mapped f (Ok x) = Ok (f x)
+mapped f (Err e) = Err e
 
 -- the extent of what was read, by its number of strands
 abbrev pub extent : {X : Type 0} → (X → ℕ) → X × ℕ → Extent

@@ -1,9 +1,14 @@
 pub mod Blocks
 pub mod Cells
 pub mod Extents
+pub mod Fault
+pub mod Heads
+pub mod Kinds
 pub mod Listed
 pub mod Numbers
+pub mod Outlines
 pub mod RecipeLaws
 pub mod Recipes
+pub mod Records
+pub mod Said
 pub mod Tree
-pub mod WellFormed

@@ -1,7 +1,7 @@
 -- What the program's values for listed cells stand for. Assumes nothing.
 use Rattle.std.specs.Prelude.{ℕ, zero, suc, List, [], ◌∷◌, length, Ok, Err, Result}
 use Rattle.theory.specs.Meaning.{Meaning}
-use Rattle.records.specs.declared.fault.Fault.{Fault}
+use Rattle.recipe.specs.declared.fault.Fault.{Fault}
 use Rattle.recipe.specs.Cells.{cell_at}
 
 module _ {P R C : Type 0} (m : Meaning P R C) where

@@ -1,12 +1,12 @@
 -- What a file reads as, under a theory: a recipe, or the first fault. Assumes nothing.
 use Rattle.std.specs.Prelude.{ℕ, cond, List, [], length, Ok, Err, Result, ◌==◌, nat_le}
 use Rattle.theory.specs.Meaning.{Meaning}
-use Rattle.records.specs.declared.fault.Fault.{Fault}
-use Rattle.records.specs.declared.fault.Fault.TheVariants.{TooLong, Spare, TooManyStrands}
+use Rattle.recipe.specs.declared.fault.Fault.{Fault}
+use Rattle.recipe.specs.declared.fault.Fault.TheVariants.{TooLong, Spare, TooManyStrands}
 use Rattle.recipe.specs.Blocks.{block_at, most_forks}
 use Rattle.recipe.specs.Cells.{cells, most_cells}
 use Rattle.recipe.specs.Extents.{most_strands}
-use Rattle.records.specs.Records.{then}
+use Rattle.recipe.specs.Records.{then}
 use Rattle.recipe.specs.Tree.{Block, size}
 
 abbrev pub longest_file : ℕ

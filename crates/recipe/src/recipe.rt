@@ -2,12 +2,12 @@ ghost use Rattle.std.specs.Prelude.{◌≡◌, IfOk};
 ghost use Rattle.recipe.specs.Cells.{position};
 ghost use Rattle.recipe.specs.Listed.{listed};
 ghost use Rattle.recipe.specs.Numbers.{numbered, numbers};
-ghost use Rattle.records.specs.Records.{mapped};
+ghost use Rattle.recipe.specs.Extents.{mapped};
 ghost use Rattle.recipe.specs.Recipes.{recipe_of};
 
 use crate::blocks::read_block;
 use crate::cells::{find_cell, read_cells};
-use records::Fault;
+use crate::fault::Fault;
 use theory::Theory;
 
 const LONGEST_FILE: usize = 16_384;

@@ -1,4 +1,6 @@
 // Examples of recipe files, at their limits and one beyond.
+#![tactic(auto)]
+
 #[cfg(test)]
 mod blocks;
 #[cfg(test)]

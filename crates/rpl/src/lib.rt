@@ -1,4 +1,6 @@
 // Region path lists: the cells that a path stands for, and the answers about them.
+#![tactic(auto)]
+
 mod answers;
 mod cell;
 mod element;

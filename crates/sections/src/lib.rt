@@ -1,4 +1,6 @@
 // Sections: regions whose cells are numbers at a fixed distance from each other.
+#![tactic(auto)]
+
 mod compare;
 mod first;
 mod laws;

@@ -1,5 +1,7 @@
 // Shares pairs of sections of tens of thousands of cells whose steps are large and coprime, and counts
 // the pairs with a shared cell. Comparing cell with cell would take hours.
+#![tactic(auto)]
+
 use sections::{Section, Sections};
 use std::io;
 use theory::Theory;

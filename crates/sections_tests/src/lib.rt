@@ -1,4 +1,6 @@
 // Examples of sections, at their limits and one beyond.
+#![tactic(auto)]
+
 #[cfg(test)]
 mod filling;
 #[cfg(test)]

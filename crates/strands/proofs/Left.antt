@@ -4,29 +4,32 @@ use native.Mathlib.Nat.{mod-eq-sub-mod, div-add-mod, div-eq_of_lt, div-eq-sub-di
 use Rattle.std.proofs.lemmas.Bool.{cases_lt}
 use borrow.Author.Tests.{lt-leb}
 use Rattle.theory.specs.Meaning.{Meaning}
-use Rattle.records.specs.declared.fault.Fault.{Fault}
-use Rattle.recipe.specs.Blocks.{block_at, branches, inner, statement, statements, effects, forking, under}
-use Rattle.recipe.specs.Tree.{Block, Blocks, none, more, Statement, Statements, next, size, branched, forked, sizes, block, cobegin, foreach, guarded}
+use Rattle.recipe.specs.declared.fault.Fault.{Fault}
+use Rattle.recipe.specs.Blocks.{block_at, branches, inner, statement, statements}
+use Rattle.recipe.specs.Tree.{Block, Blocks, none, more, Statement, Statements, next, size, branched, forked, sizes}
 use Rattle.strands.specs.declared.site.Site.{Site}
-use Rattle.recipe.specs.Cells.{at_number, unfilled}
+use Rattle.recipe.specs.Cells.{at_number}
 use Rattle.strands.specs.Strands.{Strand, each, strands_beside, strands_in, strands_of, strands_under}
 use Rattle.strands.proofs.Counting.{at_first, at_past, at_second, of_length, under_length}
 use Rattle.recipe.specs.declared.extent.Extent.{Extent}
-use Rattle.records.specs.declared.outline.Outline.{Outline}
-use Rattle.records.specs.declared.outline.Outline.TheVariants.{Operation as OperationOutline, When as WhenOutline, Fork as ForkOutline, End as EndOutline, Other as OtherOutline}
-use Rattle.records.specs.declared.record.Fork.{Fork}
-use Rattle.records.specs.declared.record.Fork.TheVariants.{Cobegin, Foreach}
-use Rattle.records.specs.declared.head.Spot.TheVariants.{Statements as InBlock, Guarded}
-use Rattle.records.specs.Records.{mapped as over, record_at}
-use Rattle.recipe.specs.Extents.{capped, ending, extent, statement_extent}
-use Rattle.records.specs.Kinds.{roomy}
-use Rattle.records.specs.Outlines.{outlined}
-use Rattle.recipe.proofs.RingLaws.{branches_none, inner_less, some_forks}
-use Rattle.records.proofs.Results.{by_ok, was_err, same_end, same_what}
+use Rattle.recipe.specs.declared.outline.Outline.{Outline}
+use Rattle.recipe.specs.declared.outline.Outline.TheVariants.{Operation as OperationOutline, When as WhenOutline, Fork as ForkOutline, End as EndOutline, Other as OtherOutline}
+use Rattle.recipe.specs.declared.record.Fork.{Fork}
+use Rattle.recipe.specs.declared.record.Fork.TheVariants.{Cobegin, Foreach}
+use Rattle.recipe.specs.declared.head.Spot.TheVariants.{Statements as InBlock, Guarded}
+use Rattle.recipe.specs.Blocks.{effects, forking, under}
+use Rattle.recipe.specs.Extents.{capped, ending, extent, mapped as over, statement_extent}
+use Rattle.recipe.specs.Cells.{unfilled}
+use Rattle.recipe.specs.Kinds.{roomy}
+use Rattle.recipe.specs.Outlines.{outlined}
+use Rattle.recipe.specs.Records.{record_at}
+use Rattle.recipe.specs.Tree.{block, cobegin, foreach, guarded}
+use Rattle.recipe.proofs.RingLaws.{branches_none, by_ok, inner_less, some_forks, was_err}
 use Rattle.std.specs.Option.{option_map}
 use Rattle.strands.specs.Finding.{FoundInBlock, FoundInBranches, FoundInFork, FoundInStatement, FoundInStatements, FoundUnder}
 use Rattle.strands.specs.Located.{found_in, located, strand_at}
-use Rattle.recipe.proofs.Parts.{BlockParts, Further, MoreBlocks, block_parts, branches_further, cobegin_parts, foreach_parts, StatementParts, statement_parts, statement_read, statements_further, UnderParts, under_parts, under_read}
+use Rattle.recipe.proofs.Accepted.{same_end, same_what}
+use Rattle.strands.proofs.Parts.{BlockParts, Further, MoreBlocks, block_parts, branches_further, cobegin_parts, foreach_parts, StatementParts, statement_parts, statement_read, statements_further, UnderParts, under_parts, under_read}
 
 module _ {P R C : Type 0} (m : Meaning P R C) (file : List ℕ) (site : Site) (is : List ℕ) where
   -- what is left of a list of blocks holds the strand, under what is left of its number

@@ -1,9 +1,4 @@
-pub mod ChildLaws
-pub mod Childhood
 pub mod Counting
-pub mod Found
-pub mod Kin
 pub mod Left
-pub mod Numbering
+pub mod Parts
 pub mod Rows
-pub mod Standing

@@ -2,7 +2,7 @@
 use Rattle.std.specs.Prelude.{◌≡◌, ℕ, ◌<◌, ◌≤◌, List, Some, Ok, Option}
 use Rattle.std.specs.Option.{option_map}
 use Rattle.theory.specs.Meaning.{Meaning}
-use Rattle.records.specs.declared.record.Fork.{Fork}
+use Rattle.recipe.specs.declared.record.Fork.{Fork}
 use Rattle.recipe.specs.Blocks.{block_at, branches, forking, inner, statement, statements, under}
 use Rattle.recipe.specs.Tree.{Block, Blocks, Statement, Statements, branched, forked, size, sizes}
 use Rattle.strands.specs.declared.site.Site.{Site}

@@ -1,6 +1,3 @@
-pub mod ChildAt
-pub mod ChildFound
-pub mod Children
 pub mod Finding
 pub mod Located
 pub mod StrandLaws

@@ -1,12 +1,11 @@
 ghost use Rattle.std.specs.Prelude.{◌≡◌, ◌<◌, true, slice_set};
-ghost use Rattle.records.specs.Kinds.{roomy};
+ghost use Rattle.recipe.specs.Kinds.{roomy};
 ghost use Rattle.recipe.specs.Numbers.{numbers};
 ghost use Rattle.strands.specs.Finding.{FoundInBlock, FoundInBranches, FoundInFork, FoundInStatement, FoundInStatements, FoundUnder};
 ghost use Rattle.strands.specs.Located.{strand_at};
 
 use crate::site::Site;
-use recipe::{Recipe, read_block, read_effects, read_statement};
-use records::{Fork, Outline, Spot, read_outline};
+use recipe::{Fork, Outline, Recipe, Spot, read_block, read_effects, read_outline, read_statement};
 use theory::{Indices, Theory};
 
 const MOST_FORKS: u8 = 6;

@@ -1,3 +1,5 @@
 // Examples of strand numbers.
+#![tactic(auto)]
+
 #[cfg(test)]
 mod numbers;

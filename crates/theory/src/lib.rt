@@ -1,4 +1,6 @@
 // Region theories: what a theory answers, what its answers mean, and the product of any two.
+#![tactic(auto)]
+
 mod fault;
 mod indices;
 mod laws;

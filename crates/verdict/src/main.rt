@@ -1,4 +1,6 @@
 // Reads a theory byte and a recipe from standard input and prints one line: what is said of it.
+#![tactic(auto)]
+
 use judge::{LONGEST_INPUT, judge};
 use std::io::Read;
 

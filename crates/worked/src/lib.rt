@@ -1,4 +1,6 @@
 // The worked examples of the definitions, as one list.
+#![tactic(auto)]
+
 ghost use Rattle.worked.specs.Examples.{Examples};
 
 use paths::worked_paths;

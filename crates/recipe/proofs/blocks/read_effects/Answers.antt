@@ -1,6 +1,5 @@
 use Rattle.std.proofs.Common.{◌≡◌, sym, refl, ap, ◌∙◌, arith}
-use Rattle.records.specs.Records.{mapped}
-use Rattle.recipe.specs.Extents.{ending}
+use Rattle.recipe.specs.Extents.{ending, mapped}
 use Rattle.recipe.proofs.BlockLaws as law
 use Rattle.recipe.proofs.blocks.read_effects.Goals as goal
 

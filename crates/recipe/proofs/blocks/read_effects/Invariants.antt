@@ -1,7 +1,6 @@
 use Rattle.std.proofs.Common.{◌≡◌, ◌-◌, ◌≤◌, length}
 use Rattle.recipe.specs.Blocks.{effects}
-use Rattle.records.specs.Records.{mapped}
-use Rattle.recipe.specs.Extents.{ending}
+use Rattle.recipe.specs.Extents.{ending, mapped}
 use Rattle.recipe.proofs.blocks.read_effects.Given as goal
 
 abbrev pub invariant-loop-depth : goal.invariant-loop-depth

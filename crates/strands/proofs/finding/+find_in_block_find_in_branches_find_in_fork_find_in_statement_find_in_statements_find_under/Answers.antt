@@ -1,5 +1,5 @@
 use Rattle.std.proofs.Common.{◌≡◌, ℕ, ◌+◌, ◌-◌, ◌*◌, ◌/◌, ◌%◌, ◌<◌, ◌≤◌, List, Some, None, Ok, Option, sym, refl, ap, ◌∙◌, subst}
-use Rattle.records.specs.declared.outline.Outline.{Outline}
+use Rattle.recipe.specs.declared.outline.Outline.{Outline}
 use Rattle.strands.specs.Finding.{FoundInBlock}
 use Rattle.strands.proofs.Left as law
 use Rattle.strands.proofs.finding.+find_in_block_find_in_branches_find_in_fork_find_in_statement_find_in_statements_find_under.Goals as goal
