@@ -1,6 +1,5 @@
 use paths::{Paths, Pattern};
-use recipe::read_block;
-use recipe::{Fork, Operation, Record, Spot, read_record};
+use recipe::{Fork, Operation, Record, Spot, read_block, read_record};
 use std::test::Fail;
 
 // The numbers of the body of a record.
