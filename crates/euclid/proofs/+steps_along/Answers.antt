@@ -2,11 +2,11 @@ use Rattle.std.proofs.Common.{◌%◌, ◌<◌, mod-lt, arith}
 use Rattle.euclid.proofs.Stepping.{moves, still_meets, no_steps, more_steps, more_below}
 use Rattle.euclid.proofs.+steps_along.Goals as goal
 
-pub nonzero-rem-modulus : goal.nonzero-rem-modulus
-nonzero-rem-modulus t c = moves c.args.modulus c.args.step c.args.start c.requires.meets c.if-over-eq0.false
+pub nonzero_rem-modulus : goal.nonzero_rem-modulus
+nonzero_rem-modulus t c = moves c.args.modulus c.args.step c.args.start c.requires.meets c.if-over-eq0.false
 
-pub steps-along-requires : goal.steps-along-requires
-steps-along-requires t c =
+pub steps_along-requires : goal.steps_along-requires
+steps_along-requires t c =
     let p : 0 < c.args.step = moves c.args.modulus c.args.step c.args.start c.requires.meets c.if-over-eq0.false in
     let l : c.args.modulus % c.args.step < c.args.step = mod-lt c.args.modulus p in
     (omega arith, (p, (omega arith, (omega arith, still_meets c.args.modulus c.args.step c.args.start p c.requires.meets))))
@@ -18,6 +18,6 @@ pub returns-else-over-eq0 : goal.returns-else-over-eq0
 returns-else-over-eq0 t c =
     let p : 0 < c.args.step = moves c.args.modulus c.args.step c.args.start c.requires.meets c.if-over-eq0.false in
     record {
-      least = more_steps c.args.modulus c.args.step c.args.start c.steps-along.result c.requires.some p c.if-over-eq0.false c.steps-along.ensures.least;
-      below = more_below c.args.modulus c.args.step c.args.start c.steps-along.result c.requires.some p c.if-over-eq0.false c.steps-along.ensures.least c.steps-along.ensures.below;
+      least = more_steps c.args.modulus c.args.step c.args.start c.steps_along.result c.requires.some p c.if-over-eq0.false c.steps_along.ensures.least;
+      below = more_below c.args.modulus c.args.step c.args.start c.steps_along.result c.requires.some p c.if-over-eq0.false c.steps_along.ensures.least c.steps_along.ensures.below;
     }

@@ -10,14 +10,14 @@ returns-then-start-eq0 c = at_nothing c.args.modulus c.args.step c.args.start c.
 pub returns-else-start-eq0 : goal.returns-else-start-eq0
 returns-else-start-eq0 c = never_nothing c.args.modulus c.args.step c.args.start c.if-modulus-eq0.true c.if-start-eq0.false
 
-pub nonzero-rem-start : goal.nonzero-rem-start
-nonzero-rem-start c = let p : 0 < c.args.modulus = omega arith in pos_of_dvd_of_pos c.gcd.ensures.greatest.left p
+pub nonzero_rem-start : goal.nonzero_rem-start
+nonzero_rem-start c = let p : 0 < c.args.modulus = omega arith in pos_of_dvd_of_pos c.gcd.ensures.greatest.left p
 
-pub steps-along-requires : goal.steps-along-requires
-steps-along-requires c = record {
+pub steps_along-requires : goal.steps_along-requires
+steps_along-requires c = record {
   some = omega arith;
-  modulus-bound = omega arith;
-  step-bound = omega arith;
+  modulus_bound = omega arith;
+  step_bound = omega arith;
   meets = subst (λ (g : ℕ). g ∣ c.args.start) c.gcd.ensures.rule (dvd_of_mod-eq-zero c.gcd.result c.if-start-gcd-eq0.true);
 }
 

@@ -10,4 +10,4 @@ use Rattle.worked.proofs.worked_examples.Goals as goal
 
 pub returns : goal.returns
 unfolding begins block_at branches effects inner statement statements under cell_at cells position head kind_of record_at recipe_of dec_lt
-returns c = record { paths = c.worked-paths.ensures; sections = c.worked-sections.ensures; file = refl }
+returns c = record { paths = c.worked_paths.ensures; sections = c.worked_sections.ensures; file = refl }

@@ -5,16 +5,16 @@ use Rattle.judge.proofs.input.judge_named.Goals as goal
 
 pub returns-in-Paths : goal.returns-in-Paths
 unfolding judged_named
-returns-in-Paths c = c.judge-by.ensures ∙ ap (λ (n : TheoryName). judged_named n c.args.file.now) (sym c.in-Paths.is)
+returns-in-Paths c = c.judge_by.ensures ∙ ap (λ (n : TheoryName). judged_named n c.args.file.now) (sym c.in-Paths.is)
 
 pub returns-in-Sections : goal.returns-in-Sections
 unfolding judged_named
-returns-in-Sections c = c.judge-by-in-Sections.ensures ∙ ap (λ (n : TheoryName). judged_named n c.args.file.now) (sym c.in-Sections.is)
+returns-in-Sections c = c.judge_by-in-Sections.ensures ∙ ap (λ (n : TheoryName). judged_named n c.args.file.now) (sym c.in-Sections.is)
 
 pub returns-in-PathsSections : goal.returns-in-PathsSections
 unfolding judged_named
-returns-in-PathsSections c = c.judge-by-in-PathsSections.ensures ∙ ap (λ (n : TheoryName). judged_named n c.args.file.now) (sym c.in-PathsSections.is)
+returns-in-PathsSections c = c.judge_by-in-PathsSections.ensures ∙ ap (λ (n : TheoryName). judged_named n c.args.file.now) (sym c.in-PathsSections.is)
 
 pub returns-in-SectionsSections : goal.returns-in-SectionsSections
 unfolding judged_named
-returns-in-SectionsSections c = c.judge-by-in-SectionsSections.ensures ∙ ap (λ (n : TheoryName). judged_named n c.args.file.now) (sym c.in-SectionsSections.is)
+returns-in-SectionsSections c = c.judge_by-in-SectionsSections.ensures ∙ ap (λ (n : TheoryName). judged_named n c.args.file.now) (sym c.in-SectionsSections.is)

@@ -10,30 +10,30 @@ use Rattle.recipe.proofs.RingLaws as law
 use Rattle.recipe.proofs.RingLaws.{added_twice, as_statement}
 use Rattle.recipe.proofs.blocks.+read_block_read_branches_read_fork_read_statement_read_statements_read_under.Goals as goal
 
-pub read-block-returns-in-Err : goal.read-block-returns-in-Err
-read-block-returns-in-Err g t c = record { is = law.block_effects_bad g.T.Theory.meaning _ _ _ _ _ c.in-Err.ensures.is; whole = tt }
+pub read_block-returns-in-Err : goal.read_block-returns-in-Err
+read_block-returns-in-Err g t c = record { is = law.block_effects_bad g.T.Theory.meaning _ _ _ _ _ c.in-Err.ensures.is; whole = tt }
 
-pub read-block-returns-in-Err-read-statements : goal.read-block-returns-in-Err-read-statements
-read-block-returns-in-Err-read-statements g t c =
-    record { is = law.block_bad g.T.Theory.meaning _ _ _ _ _ _ c.in-Ok.ensures.is c.in-Err-read-statements.ensures.is; whole = tt }
+pub read_block-returns-in-Err-read_statements : goal.read_block-returns-in-Err-read_statements
+read_block-returns-in-Err-read_statements g t c =
+    record { is = law.block_bad g.T.Theory.meaning _ _ _ _ _ _ c.in-Ok.ensures.is c.in-Err-read_statements.ensures.is; whole = tt }
 
-pub read-block-returns-in-Ok-read-statements : goal.read-block-returns-in-Ok-read-statements
-read-block-returns-in-Ok-read-statements g t c =
+pub read_block-returns-in-Ok-read_statements : goal.read_block-returns-in-Ok-read_statements
+read_block-returns-in-Ok-read_statements g t c =
     let a = c.in-Ok.ensures.whole in
-    let b = c.in-Ok-read-statements.ensures.whole in
+    let b = c.in-Ok-read_statements.ensures.whole in
     record {
-      is = ap (λ n. Ok (record { end = c.in-Ok-read-statements.inside.end; strands = n })) c.counted.ensures ∙ law.block_well g.T.Theory.meaning _ _ _ _ _ _ c.in-Ok.ensures.is c.in-Ok-read-statements.ensures.is;
+      is = ap (λ n. Ok (record { end = c.in-Ok-read_statements.inside.end; strands = n })) c.counted.ensures ∙ law.block_well g.T.Theory.meaning _ _ _ _ _ _ c.in-Ok.ensures.is c.in-Ok-read_statements.ensures.is;
       whole = (omega arith, omega arith);
     }
 
-pub read-branches-returns-in-Err : goal.read-branches-returns-in-Err
-read-branches-returns-in-Err g t c = record {
+pub read_branches-returns-in-Err : goal.read_branches-returns-in-Err
+read_branches-returns-in-Err g t c = record {
   is = sym (ap (added c.loop-left.strands) (law.branches_bad g.T.Theory.meaning _ _ _ _ _ _ c.loop-left-test.true c.in-Err.ensures.is)) ∙ c.loop-left.invariant.0;
   whole = tt;
 }
 
-pub read-branches-loop-left-preserved : goal.read-branches-loop-left-preserved
-read-branches-loop-left-preserved g t c =
+pub read_branches-loop-left-preserved : goal.read_branches-loop-left-preserved
+read_branches-loop-left-preserved g t c =
     let w = c.in-Ok.ensures.whole in (
       rw c.counted-strands.ensures
           (sym (added_twice c.loop-left.strands c.in-Ok.block.strands _)
@@ -44,70 +44,70 @@ read-branches-loop-left-preserved g t c =
       omega arith,
     )
 
-pub read-branches-returns : goal.read-branches-returns
-read-branches-returns g t c = record {
+pub read_branches-returns : goal.read_branches-returns
+read_branches-returns g t c = record {
   is = law.at_last c.loop-left.strands c.loop-left.at c.loop-left.invariant.1 ∙ sym (ap (λ r. added c.loop-left.strands (mapped (extent branched) r)) (law.branches_none g.T.Theory.meaning _ (block_at g.T.Theory.meaning c.args.file.now c.args.forks) _ _ _ c.loop-left-test.false)) ∙ c.loop-left.invariant.0;
   whole = (c.loop-left.invariant.2, c.loop-left.invariant.3);
 }
 
-pub read-fork-returns-in-Cobegin : goal.read-fork-returns-in-Cobegin
-read-fork-returns-in-Cobegin g t c = record {
-  is = λ at. c.read-branches.ensures.is ∙ law.fork_cobegin g.T.Theory.meaning _ _ _ _ _ _ at c.in-Cobegin.is c.requires;
-  whole = c.read-branches.ensures.whole;
+pub read_fork-returns-in-Cobegin : goal.read_fork-returns-in-Cobegin
+read_fork-returns-in-Cobegin g t c = record {
+  is = λ at. c.read_branches.ensures.is ∙ law.fork_cobegin g.T.Theory.meaning _ _ _ _ _ _ at c.in-Cobegin.is c.requires;
+  whole = c.read_branches.ensures.whole;
 }
 
-pub read-fork-returns-in-Ok : goal.read-fork-returns-in-Ok
-read-fork-returns-in-Ok g t c =
+pub read_fork-returns-in-Ok : goal.read_fork-returns-in-Ok
+read_fork-returns-in-Ok g t c =
     let w = c.in-Ok.ensures.whole in
     record {
       is = λ at. ap (λ n. Ok (record { end = c.in-Ok.block.end; strands = n })) c.counted.ensures ∙ law.fork_foreach g.T.Theory.meaning _ _ _ _ _ _ at c.in-Ok.block c.in-Foreach.is c.requires c.in-Ok.ensures.is;
       whole = (omega arith, omega arith);
     }
 
-pub read-fork-returns-in-Err : goal.read-fork-returns-in-Err
-read-fork-returns-in-Err g t c =
+pub read_fork-returns-in-Err : goal.read_fork-returns-in-Err
+read_fork-returns-in-Err g t c =
     record { is = λ at. law.fork_bad g.T.Theory.meaning _ _ _ _ _ _ at _ c.in-Foreach.is c.requires c.in-Err.ensures.is; whole = tt }
 
-pub read-statement-returns-in-Operation : goal.read-statement-returns-in-Operation
-read-statement-returns-in-Operation g t c =
+pub read_statement-returns-in-Operation : goal.read_statement-returns-in-Operation
+read_statement-returns-in-Operation g t c =
     record { is = law.statement_outlined g.T.Theory.meaning c.args.file.now (inner g.T.Theory.meaning c.args.file.now c.args.forks) c.args.forks c.args.depth c.args.place (OperationOutline, c.in-Ok.end) (ap (λ (o : Outline). Ok (o, c.in-Ok.end)) (sym c.in-Operation.is) ∙ c.in-Ok.ensures.is); whole = c.in-Ok.ensures.whole }
 
-pub read-statement-returns-in-Ok-read-under : goal.read-statement-returns-in-Ok-read-under
-read-statement-returns-in-Ok-read-under g t c =
+pub read_statement-returns-in-Ok-read_under : goal.read_statement-returns-in-Ok-read_under
+read_statement-returns-in-Ok-read_under g t c =
     let a = c.in-Ok.ensures.whole in
-    let b = c.in-Ok-read-under.ensures.whole in
-    record { is = ap as_statement c.in-Ok-read-under.ensures.is ∙ law.statement_outlined g.T.Theory.meaning c.args.file.now (inner g.T.Theory.meaning c.args.file.now c.args.forks) c.args.forks c.args.depth c.args.place (WhenOutline, c.in-Ok.end) (ap (λ (o : Outline). Ok (o, c.in-Ok.end)) (sym c.in-When.is) ∙ c.in-Ok.ensures.is); whole = (omega arith, omega arith) }
+    let b = c.in-Ok-read_under.ensures.whole in
+    record { is = ap as_statement c.in-Ok-read_under.ensures.is ∙ law.statement_outlined g.T.Theory.meaning c.args.file.now (inner g.T.Theory.meaning c.args.file.now c.args.forks) c.args.forks c.args.depth c.args.place (WhenOutline, c.in-Ok.end) (ap (λ (o : Outline). Ok (o, c.in-Ok.end)) (sym c.in-When.is) ∙ c.in-Ok.ensures.is); whole = (omega arith, omega arith) }
 
-pub read-statement-returns-in-Err-read-under : goal.read-statement-returns-in-Err-read-under
-read-statement-returns-in-Err-read-under g t c =
-    record { is = ap as_statement c.in-Err-read-under.ensures.is ∙ law.statement_outlined g.T.Theory.meaning c.args.file.now (inner g.T.Theory.meaning c.args.file.now c.args.forks) c.args.forks c.args.depth c.args.place (WhenOutline, c.in-Ok.end) (ap (λ (o : Outline). Ok (o, c.in-Ok.end)) (sym c.in-When.is) ∙ c.in-Ok.ensures.is); whole = tt }
+pub read_statement-returns-in-Err-read_under : goal.read_statement-returns-in-Err-read_under
+read_statement-returns-in-Err-read_under g t c =
+    record { is = ap as_statement c.in-Err-read_under.ensures.is ∙ law.statement_outlined g.T.Theory.meaning c.args.file.now (inner g.T.Theory.meaning c.args.file.now c.args.forks) c.args.forks c.args.depth c.args.place (WhenOutline, c.in-Ok.end) (ap (λ (o : Outline). Ok (o, c.in-Ok.end)) (sym c.in-When.is) ∙ c.in-Ok.ensures.is); whole = tt }
 
-pub read-statement-returns-in-Ok-read-fork : goal.read-statement-returns-in-Ok-read-fork
-read-statement-returns-in-Ok-read-fork g t c =
+pub read_statement-returns-in-Ok-read_fork : goal.read_statement-returns-in-Ok-read_fork
+read_statement-returns-in-Ok-read_fork g t c =
     let a = c.in-Ok.ensures.whole in
-    let b = c.in-Ok-read-fork.ensures.whole in
-    record { is = ap as_statement (c.in-Ok-read-fork.ensures.is c.args.place) ∙ law.statement_outlined g.T.Theory.meaning c.args.file.now (inner g.T.Theory.meaning c.args.file.now c.args.forks) c.args.forks c.args.depth c.args.place (ForkOutline c.in-Fork.fork, c.in-Ok.end) (ap (λ (o : Outline). Ok (o, c.in-Ok.end)) (sym c.in-Fork.is) ∙ c.in-Ok.ensures.is); whole = (omega arith, b.1 a.1) }
+    let b = c.in-Ok-read_fork.ensures.whole in
+    record { is = ap as_statement (c.in-Ok-read_fork.ensures.is c.args.place) ∙ law.statement_outlined g.T.Theory.meaning c.args.file.now (inner g.T.Theory.meaning c.args.file.now c.args.forks) c.args.forks c.args.depth c.args.place (ForkOutline c.in-Fork.fork, c.in-Ok.end) (ap (λ (o : Outline). Ok (o, c.in-Ok.end)) (sym c.in-Fork.is) ∙ c.in-Ok.ensures.is); whole = (omega arith, b.1 a.1) }
 
-pub read-statement-returns-in-Err-read-fork : goal.read-statement-returns-in-Err-read-fork
-read-statement-returns-in-Err-read-fork g t c =
-    record { is = ap as_statement (c.in-Err-read-fork.ensures.is c.args.place) ∙ law.statement_outlined g.T.Theory.meaning c.args.file.now (inner g.T.Theory.meaning c.args.file.now c.args.forks) c.args.forks c.args.depth c.args.place (ForkOutline c.in-Fork.fork, c.in-Ok.end) (ap (λ (o : Outline). Ok (o, c.in-Ok.end)) (sym c.in-Fork.is) ∙ c.in-Ok.ensures.is); whole = tt }
+pub read_statement-returns-in-Err-read_fork : goal.read_statement-returns-in-Err-read_fork
+read_statement-returns-in-Err-read_fork g t c =
+    record { is = ap as_statement (c.in-Err-read_fork.ensures.is c.args.place) ∙ law.statement_outlined g.T.Theory.meaning c.args.file.now (inner g.T.Theory.meaning c.args.file.now c.args.forks) c.args.forks c.args.depth c.args.place (ForkOutline c.in-Fork.fork, c.in-Ok.end) (ap (λ (o : Outline). Ok (o, c.in-Ok.end)) (sym c.in-Fork.is) ∙ c.in-Ok.ensures.is); whole = tt }
 
-pub read-statement-returns-in-End : goal.read-statement-returns-in-End
-read-statement-returns-in-End g t c =
+pub read_statement-returns-in-End : goal.read_statement-returns-in-End
+read_statement-returns-in-End g t c =
     record { is = law.statement_outlined g.T.Theory.meaning c.args.file.now (inner g.T.Theory.meaning c.args.file.now c.args.forks) c.args.forks c.args.depth c.args.place (EndOutline, c.in-Ok.end) (ap (λ (o : Outline). Ok (o, c.in-Ok.end)) (sym c.in-End.is) ∙ c.in-Ok.ensures.is); whole = c.in-Ok.ensures.whole }
 
-pub read-statement-returns-in-Other : goal.read-statement-returns-in-Other
-read-statement-returns-in-Other g t c =
+pub read_statement-returns-in-Other : goal.read_statement-returns-in-Other
+read_statement-returns-in-Other g t c =
     record { is = law.statement_outlined g.T.Theory.meaning c.args.file.now (inner g.T.Theory.meaning c.args.file.now c.args.forks) c.args.forks c.args.depth c.args.place (OtherOutline, c.in-Ok.end) (ap (λ (o : Outline). Ok (o, c.in-Ok.end)) (sym c.in-Other.is) ∙ c.in-Ok.ensures.is); whole = tt }
 
-pub read-statement-returns-in-Err : goal.read-statement-returns-in-Err
-read-statement-returns-in-Err g t c = record { is = law.statement_bad g.T.Theory.meaning _ _ _ _ _ _ c.in-Err.ensures.is; whole = tt }
+pub read_statement-returns-in-Err : goal.read_statement-returns-in-Err
+read_statement-returns-in-Err g t c = record { is = law.statement_bad g.T.Theory.meaning _ _ _ _ _ _ c.in-Err.ensures.is; whole = tt }
 
-pub read-statements-loop-found-init : goal.read-statements-loop-found-init
-read-statements-loop-found-init g t c = ((suc (length c.args.file.now), (omega arith, omega arith), law.added_none sizes _), omega arith, omega arith)
+pub read_statements-loop-found-init : goal.read_statements-loop-found-init
+read_statements-loop-found-init g t c = ((suc (length c.args.file.now), (omega arith, omega arith), law.added_none sizes _), omega arith, omega arith)
 
-pub read-statements-loop-found-preserved : goal.read-statements-loop-found-preserved
-read-statements-loop-found-preserved g t c =
+pub read_statements-loop-found-preserved : goal.read_statements-loop-found-preserved
+read_statements-loop-found-preserved g t c =
     let w = c.in-Ok.ensures.whole in
     let f = c.loop-found.invariant.0.1 in
     let pos : 0 < c.loop-found.invariant.0.0 = f.0 in (
@@ -123,8 +123,8 @@ read-statements-loop-found-preserved g t c =
       omega arith,
     )
 
-pub read-statements-returns-in-None : goal.read-statements-returns-in-None
-read-statements-returns-in-None g t c =
+pub read_statements-returns-in-None : goal.read_statements-returns-in-None
+read_statements-returns-in-None g t c =
     let w = c.in-Ok.ensures.whole in
     let pos : 0 < c.loop-found.invariant.0.0 = c.loop-found.invariant.0.1.0 in
     record {
@@ -134,37 +134,37 @@ read-statements-returns-in-None g t c =
       whole = (omega arith, omega arith);
     }
 
-pub read-statements-returns-in-Err : goal.read-statements-returns-in-Err
-read-statements-returns-in-Err g t c =
+pub read_statements-returns-in-Err : goal.read_statements-returns-in-Err
+read_statements-returns-in-Err g t c =
     let pos : 0 < c.loop-found.invariant.0.0 = c.loop-found.invariant.0.1.0 in
     record {
       is = ap (added c.loop-found.strands) (sym (law.statements_bad g.T.Theory.meaning c.args.file.now (inner g.T.Theory.meaning c.args.file.now c.args.forks) c.args.forks c.args.depth c.loop-found.invariant.0.0 c.loop-found.at _ pos c.in-Err.ensures.is)) ∙ c.loop-found.invariant.0.2;
       whole = tt;
     }
 
-pub read-under-returns-in-Operation : goal.read-under-returns-in-Operation
-read-under-returns-in-Operation g t c =
+pub read_under-returns-in-Operation : goal.read_under-returns-in-Operation
+read_under-returns-in-Operation g t c =
     record { is = law.under_outlined g.T.Theory.meaning c.args.file.now (inner g.T.Theory.meaning c.args.file.now c.args.forks) c.args.forks c.args.depth c.args.place (OperationOutline, c.in-Ok.end) (ap (λ (o : Outline). Ok (o, c.in-Ok.end)) (sym c.in-Operation.is) ∙ c.in-Ok.ensures.is); whole = c.in-Ok.ensures.whole }
 
-pub read-under-returns-in-Fork : goal.read-under-returns-in-Fork
-read-under-returns-in-Fork g t c =
+pub read_under-returns-in-Fork : goal.read_under-returns-in-Fork
+read_under-returns-in-Fork g t c =
     let a = c.in-Ok.ensures.whole in
     record {
-      is = c.read-fork.ensures.is c.args.place ∙ law.under_outlined g.T.Theory.meaning c.args.file.now (inner g.T.Theory.meaning c.args.file.now c.args.forks) c.args.forks c.args.depth c.args.place (ForkOutline c.in-Fork.fork, c.in-Ok.end) (ap (λ (o : Outline). Ok (o, c.in-Ok.end)) (sym c.in-Fork.is) ∙ c.in-Ok.ensures.is);
-      whole = IfOk-weaker c.read-fork.result _ _ (λ (x : Extent) h. (omega (arith, h.0), h.1 a.1)) c.read-fork.ensures.whole;
+      is = c.read_fork.ensures.is c.args.place ∙ law.under_outlined g.T.Theory.meaning c.args.file.now (inner g.T.Theory.meaning c.args.file.now c.args.forks) c.args.forks c.args.depth c.args.place (ForkOutline c.in-Fork.fork, c.in-Ok.end) (ap (λ (o : Outline). Ok (o, c.in-Ok.end)) (sym c.in-Fork.is) ∙ c.in-Ok.ensures.is);
+      whole = IfOk-weaker c.read_fork.result _ _ (λ (x : Extent) h. (omega (arith, h.0), h.1 a.1)) c.read_fork.ensures.whole;
     }
 
-pub read-under-returns-in-When : goal.read-under-returns-in-When
-read-under-returns-in-When g t c =
+pub read_under-returns-in-When : goal.read_under-returns-in-When
+read_under-returns-in-When g t c =
     record { is = law.under_outlined g.T.Theory.meaning c.args.file.now (inner g.T.Theory.meaning c.args.file.now c.args.forks) c.args.forks c.args.depth c.args.place (WhenOutline, c.in-Ok.end) (ap (λ (o : Outline). Ok (o, c.in-Ok.end)) (sym c.in-When.is) ∙ c.in-Ok.ensures.is); whole = tt }
 
-pub read-under-returns-in-End : goal.read-under-returns-in-End
-read-under-returns-in-End g t c =
+pub read_under-returns-in-End : goal.read_under-returns-in-End
+read_under-returns-in-End g t c =
     record { is = law.under_outlined g.T.Theory.meaning c.args.file.now (inner g.T.Theory.meaning c.args.file.now c.args.forks) c.args.forks c.args.depth c.args.place (EndOutline, c.in-Ok.end) (ap (λ (o : Outline). Ok (o, c.in-Ok.end)) (sym c.in-End.is) ∙ c.in-Ok.ensures.is); whole = tt }
 
-pub read-under-returns-in-Other : goal.read-under-returns-in-Other
-read-under-returns-in-Other g t c =
+pub read_under-returns-in-Other : goal.read_under-returns-in-Other
+read_under-returns-in-Other g t c =
     record { is = law.under_outlined g.T.Theory.meaning c.args.file.now (inner g.T.Theory.meaning c.args.file.now c.args.forks) c.args.forks c.args.depth c.args.place (OtherOutline, c.in-Ok.end) (ap (λ (o : Outline). Ok (o, c.in-Ok.end)) (sym c.in-Other.is) ∙ c.in-Ok.ensures.is); whole = tt }
 
-pub read-under-returns-in-Err : goal.read-under-returns-in-Err
-read-under-returns-in-Err g t c = record { is = law.under_bad g.T.Theory.meaning _ _ _ _ _ _ c.in-Err.ensures.is; whole = tt }
+pub read_under-returns-in-Err : goal.read_under-returns-in-Err
+read_under-returns-in-Err g t c = record { is = law.under_bad g.T.Theory.meaning _ _ _ _ _ _ c.in-Err.ensures.is; whole = tt }

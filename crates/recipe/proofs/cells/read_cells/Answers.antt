@@ -21,11 +21,11 @@ returns-then-count g c = record {
   whole = tt;
 }
 
-pub returns-then-is-some : goal.returns-then-is-some
-returns-then-is-some g c =
+pub returns-then-is_some : goal.returns-then-is_some
+returns-then-is_some g c =
     let n : 0 < 128 - c.loop-at.count = omega arith in
     record {
-      is = sym (ap (mapped (counted g.T.Theory.meaning)) (law.cells_repeated g.T.Theory.meaning c.args.file.now (listed g.T.Theory.meaning c.args.file.now c.loop-at.count 0) (128 - c.loop-at.count) _ c.in-Ok.end _ (sym c.loop-at-test.ensures) n c.in-Ok.ensures.is (ap is_some (sym c.find-cell.ensures) ∙ sym c.is-some.ensures ∙ c.if-is-some.true))) ∙ ap (mapped (counted g.T.Theory.meaning)) c.loop-at.invariant.0;
+      is = sym (ap (mapped (counted g.T.Theory.meaning)) (law.cells_repeated g.T.Theory.meaning c.args.file.now (listed g.T.Theory.meaning c.args.file.now c.loop-at.count 0) (128 - c.loop-at.count) _ c.in-Ok.end _ (sym c.loop-at-test.ensures) n c.in-Ok.ensures.is (ap is_some (sym c.find_cell.ensures) ∙ sym c.is_some.ensures ∙ c.if-is_some.true))) ∙ ap (mapped (counted g.T.Theory.meaning)) c.loop-at.invariant.0;
       whole = tt;
     }
 
@@ -44,7 +44,7 @@ loop-at-preserved g c =
     let one : suc c.loop-at.count ≡ c.loop-at.count + 1 = omega arith in
     let less : 128 - c.loop-at.count - 1 ≡ 128 - suc c.loop-at.count = omega arith in
     let next = law.walks_on g.T.Theory.meaning c.args.file.now c.loop-at.count 0 c.loop-at.at c.in-Ok.end _ c.loop-at.invariant.1 c.in-Ok.ensures.is in
-    let more = law.cells_more g.T.Theory.meaning c.args.file.now (listed g.T.Theory.meaning c.args.file.now c.loop-at.count 0) (128 - c.loop-at.count) _ c.in-Ok.end _ (sym c.loop-at-test.ensures) n c.in-Ok.ensures.is (ap is_some (sym c.find-cell.ensures) ∙ sym c.is-some.ensures ∙ c.if-is-some.false) in
+    let more = law.cells_more g.T.Theory.meaning c.args.file.now (listed g.T.Theory.meaning c.args.file.now c.loop-at.count 0) (128 - c.loop-at.count) _ c.in-Ok.end _ (sym c.loop-at-test.ensures) n c.in-Ok.ensures.is (ap is_some (sym c.find_cell.ensures) ∙ sym c.is_some.ensures ∙ c.if-is_some.false) in
     let grown = law.walks_listed g.T.Theory.meaning c.args.file.now c.loop-at.count 0 c.loop-at.at c.in-Ok.end _ c.loop-at.invariant.1 c.in-Ok.ensures.is in
     subst (λ (k : ℕ). Goes g.T.Theory.meaning c.args.file.now k c.in-Ok.end) one (
       ap (λ (l : List g.T.Theory.meaning.Point). cells g.T.Theory.meaning c.args.file.now (128 - suc c.loop-at.count) l c.in-Ok.end) grown

@@ -7,8 +7,8 @@ use Rattle.recipe.proofs.head.read_head.Goals as goal
 pub returns-then-place-file : goal.returns-then-place-file
 returns-then-place-file c = record { is = law.head_missing _ _ _ _ c.if-place-file.true; whole = tt }
 
-pub returns-in-default : goal.returns-in-default
-returns-in-default c = record { is = law.head_unknown _ _ _ _ c.if-place-file.false (sym c.of.ensures ∙ c.in-default.is); whole = tt }
+pub returns-in_default : goal.returns-in_default
+returns-in_default c = record { is = law.head_unknown _ _ _ _ c.if-place-file.false (sym c.of.ensures ∙ c.in_default.is); whole = tt }
 
 pub returns-then-not-allows : goal.returns-then-not-allows
 returns-then-not-allows c =
@@ -20,16 +20,16 @@ returns-then-file-place c =
     let n = lengths_agree _ _ k in
     record { is = law.head_cut _ _ _ _ c.if-place-file.false _ k (sym c.if-not-allows.ensures) (omega (arith, c.body_length.ensures, n)); whole = tt }
 
-pub in-limits-requires : goal.in-limits-requires
-in-limits-requires c = omega (arith, c.body_length.ensures, lengths_agree _ _ (sym c.of.ensures ∙ c.in-Some.is))
+pub in_limits-requires : goal.in_limits-requires
+in_limits-requires c = omega (arith, c.body_length.ensures, lengths_agree _ _ (sym c.of.ensures ∙ c.in-Some.is))
 
-pub returns-then-not-in-limits : goal.returns-then-not-in-limits
-returns-then-not-in-limits c =
+pub returns-then-not-in_limits : goal.returns-then-not-in_limits
+returns-then-not-in_limits c =
     let k = sym c.of.ensures ∙ c.in-Some.is in
-    record { is = law.head_outside _ _ _ _ c.if-place-file.false _ k (sym c.if-not-allows.ensures) (omega (arith, c.body_length.ensures, lengths_agree _ _ k)) (sym c.if-not-in-limits.ensures); whole = tt }
+    record { is = law.head_outside _ _ _ _ c.if-place-file.false _ k (sym c.if-not-allows.ensures) (omega (arith, c.body_length.ensures, lengths_agree _ _ k)) (sym c.if-not-in_limits.ensures); whole = tt }
 
 pub returns : goal.returns
 returns c =
     let k = sym c.of.ensures ∙ c.in-Some.is in
     let w : c.args.place + 1 + body_of c.in-Some.kind ≤ length c.args.file.now = omega (arith, c.body_length.ensures, lengths_agree _ _ k) in
-    record { is = law.head_well _ _ _ _ c.if-place-file.false _ k (sym c.if-not-allows.ensures) w (sym c.if-not-in-limits.ensures); whole = w }
+    record { is = law.head_well _ _ _ _ c.if-place-file.false _ k (sym c.if-not-allows.ensures) w (sym c.if-not-in_limits.ensures); whole = w }

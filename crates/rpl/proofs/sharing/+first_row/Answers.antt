@@ -7,8 +7,8 @@ returns-in-empty t c = first_end c.args.row.now c.args.q.now (search rules) (sea
 
 pub returns-in-Star : goal.returns-in-Star
 returns-in-Star t c =
-    first_star c.first-row.new.row c.args.q.now _ (search rules) (search rules) (search rules) c.first-row.ensures
-    (first_next c.first-row.new.row c.args.q.now (search rules) c.first-row.ensures)
+    first_star c.first_row.new.row c.args.q.now _ (search rules) (search rules) (search rules) c.first_row.ensures
+    (first_next c.first_row.new.row c.args.q.now (search rules) c.first_row.ensures)
 
 pub returns-in-One : goal.returns-in-One
-returns-in-One t c = first_one c.first-row-in-One.new.row c.args.q.now (search rules) (search rules) (search rules) c.first-row-in-One.ensures
+returns-in-One t c = first_one c.first_row-in-One.new.row c.args.q.now (search rules) (search rules) (search rules) c.first_row-in-One.ensures

@@ -25,17 +25,17 @@ found-requires-in-Star-q-2 t c = (search rules, (search rules, (search rules, ta
 pub found-requires-in-None-found : goal.found-requires-in-None-found
 found-requires-in-None-found t c = (search rules, (search rules, (search rules, table_left c.args.table.now c.args.p.now c.args.q.now (search rules) c.requires.1.1)))
 
-pub found-requires-in-Some-shared-key : goal.found-requires-in-Some-shared-key
-found-requires-in-Some-shared-key t c = (search rules, (search rules, (search rules, table_both c.args.table.now c.args.p.now c.args.q.now (search rules) (search rules) c.requires.1.1)))
+pub found-requires-in-Some-shared_key : goal.found-requires-in-Some-shared_key
+found-requires-in-Some-shared_key t c = (search rules, (search rules, (search rules, table_both c.args.table.now c.args.p.now c.args.q.now (search rules) (search rules) c.requires.1.1)))
 
-pub in-front-requires : goal.in-front-requires
-in-front-requires t c = room_right c.args.p.now c.args.q.now _ (search rules) (search rules) (search rules) c.found-in-One-q.ensures
+pub in_front-requires : goal.in_front-requires
+in_front-requires t c = room_right c.args.p.now c.args.q.now _ (search rules) (search rules) (search rules) c.found-in-One-q.ensures
 
-pub in-front-requires-in-None-found : goal.in-front-requires-in-None-found
-in-front-requires-in-None-found t c = room_left c.args.p.now c.args.q.now _ (search rules) (search rules) (search rules) c.found-in-None-found.ensures
+pub in_front-requires-in-None-found : goal.in_front-requires-in-None-found
+in_front-requires-in-None-found t c = room_left c.args.p.now c.args.q.now _ (search rules) (search rules) (search rules) c.found-in-None-found.ensures
 
-pub in-front-requires-in-Some-shared-key : goal.in-front-requires-in-Some-shared-key
-in-front-requires-in-Some-shared-key t c = room_both c.args.p.now c.args.q.now _ (search rules) (search rules) (search rules) (search rules) c.found-in-Some-shared-key.ensures
+pub in_front-requires-in-Some-shared_key : goal.in_front-requires-in-Some-shared_key
+in_front-requires-in-Some-shared_key t c = room_both c.args.p.now c.args.q.now _ (search rules) (search rules) (search rules) (search rules) c.found-in-Some-shared_key.ensures
 
 pub returns-in-empty : goal.returns-in-empty
 returns-in-empty t c =
@@ -54,7 +54,7 @@ returns-in-Star-q t c =
 
 pub returns-in-One-q : goal.returns-in-One-q
 returns-in-One-q t c =
-    c.in_front.ensures ∙ ap (λ (k : Key). in_front k (told c.found-in-One-q.result)) c.a-key.ensures ∙
+    c.in_front.ensures ∙ ap (λ (k : Key). in_front k (told c.found-in-One-q.result)) c.a_key.ensures ∙
     met c.args.p.now c.args.q.now Star (One c.in-One-q.b) None _ _ (search rules) (search rules) (search rules) (search rules) c.in-None.ensures c.found-in-One-q.ensures refl
 
 pub returns-in-empty-q-2 : goal.returns-in-empty-q-2
@@ -66,10 +66,10 @@ returns-in-Some-found t c =
 
 pub returns-in-None-found : goal.returns-in-None-found
 returns-in-None-found t c =
-    c.in-front-in-None-found.ensures ∙ ap (λ (k : Key). in_front k (told c.found-in-None-found.result)) c.a-key-in-None-found.ensures ∙
+    c.in_front-in-None-found.ensures ∙ ap (λ (k : Key). in_front k (told c.found-in-None-found.result)) c.a_key-in-None-found.ensures ∙
     met c.args.p.now c.args.q.now (One c.in-One.a) Star _ None _ (search rules) (search rules) (search rules) (search rules) c.found-in-None-found.ensures c.in-None-found.ensures refl
 
-pub returns-in-Some-shared-key : goal.returns-in-Some-shared-key
-returns-in-Some-shared-key t c =
-    c.in-front-in-Some-shared-key.ensures ∙ ap (λ (m : Option Key). in_front_if m (told c.found-in-Some-shared-key.result)) c.in-Some-shared-key.ensures ∙
-    met c.args.p.now c.args.q.now (One c.in-One.a) (One c.in-One-q-2.b) _ _ _ (search rules) (search rules) (search rules) (search rules) refl refl c.found-in-Some-shared-key.ensures
+pub returns-in-Some-shared_key : goal.returns-in-Some-shared_key
+returns-in-Some-shared_key t c =
+    c.in_front-in-Some-shared_key.ensures ∙ ap (λ (m : Option Key). in_front_if m (told c.found-in-Some-shared_key.result)) c.in-Some-shared_key.ensures ∙
+    met c.args.p.now c.args.q.now (One c.in-One.a) (One c.in-One-q-2.b) _ _ _ (search rules) (search rules) (search rules) (search rules) refl refl c.found-in-Some-shared_key.ensures

@@ -1,5 +1,5 @@
 use Rattle.std.proofs.Common.{length}
 use Rattle.rpl.proofs.sharing.+next_row.Given as goal
 
-abbrev pub decreases-next-row : goal.decreases-next-row
-decreases-next-row l = length l.q.now
+abbrev pub decreases-next_row : goal.decreases-next_row
+decreases-next_row l = length l.q.now

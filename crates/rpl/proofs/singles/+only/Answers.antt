@@ -13,4 +13,4 @@ after-requires t c = cell_room c.args.path.now _ c.only-in-One.ensures (search r
 
 pub returns-in-One : goal.returns-in-One
 returns-in-One t c =
-    c.after.ensures ∙ cell_front c.args.path.now c.in-One.part _ _ (search rules) (search rules) c.a-key.ensures c.only-in-One.ensures
+    c.after.ensures ∙ cell_front c.args.path.now c.in-One.part _ _ (search rules) (search rules) c.a_key.ensures c.only-in-One.ensures

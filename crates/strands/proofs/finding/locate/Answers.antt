@@ -4,17 +4,17 @@ use Rattle.strands.proofs.finding.locate.Goals as goal
 pub returns-in-Err : goal.returns-in-Err
 returns-in-Err g c = law.moved g.T.Theory.meaning c.file-file.result.now _ c.root.result _ c.args.number _ c.file-file.ensures c.root.ensures (law.root_bad g.T.Theory.meaning c.file-file.result.now c.root.result c.args.number _ c.in-Err.ensures.is)
 
-pub returns-then-extent-gt-MOST-STRANDS : goal.returns-then-extent-gt-MOST-STRANDS
-returns-then-extent-gt-MOST-STRANDS g c =
+pub returns-then-extent-gt-MOST_STRANDS : goal.returns-then-extent-gt-MOST_STRANDS
+returns-then-extent-gt-MOST_STRANDS g c =
     law.moved g.T.Theory.meaning c.file-file.result.now _ c.root.result _ c.args.number _ c.file-file.ensures c.root.ensures
-    (law.root_large g.T.Theory.meaning c.file-file.result.now c.root.result c.args.number c.in-Ok.extent c.in-Ok.ensures.is c.if-extent-gt-MOST-STRANDS.true)
+    (law.root_large g.T.Theory.meaning c.file-file.result.now c.root.result c.args.number c.in-Ok.extent c.in-Ok.ensures.is c.if-extent-gt-MOST_STRANDS.true)
 
 pub returns-then-number-extent : goal.returns-then-number-extent
 returns-then-number-extent g c =
     law.moved g.T.Theory.meaning c.file-file.result.now _ c.root.result _ c.args.number _ c.file-file.ensures c.root.ensures
-    (law.root_past g.T.Theory.meaning c.file-file.result.now c.root.result c.args.number c.in-Ok.extent c.in-Ok.ensures.is c.if-extent-gt-MOST-STRANDS.false c.if-number-extent.true)
+    (law.root_past g.T.Theory.meaning c.file-file.result.now c.root.result c.args.number c.in-Ok.extent c.in-Ok.ensures.is c.if-extent-gt-MOST_STRANDS.false c.if-number-extent.true)
 
 pub returns-else-number-extent : goal.returns-else-number-extent
 returns-else-number-extent g c =
     law.moved g.T.Theory.meaning c.file-file.result.now _ c.root.result _ c.args.number _ c.file-file.ensures c.root.ensures
-    (law.root_found g.T.Theory.meaning c.file-file.result.now c.root.result c.args.number c.in-Ok.extent c.in-Ok.ensures.is c.find-in-block.result c.if-extent-gt-MOST-STRANDS.false c.if-number-extent.false c.find-in-block.ensures)
+    (law.root_found g.T.Theory.meaning c.file-file.result.now c.root.result c.args.number c.in-Ok.extent c.in-Ok.ensures.is c.find_in_block.result c.if-extent-gt-MOST_STRANDS.false c.if-number-extent.false c.find_in_block.ensures)

@@ -4,4 +4,4 @@ use Rattle.sections.proofs.section.Section.least_shared.Goals as goal
 
 pub returns-else-self-other : goal.returns-else-self-other
 returns-else-self-other c =
-    let r = c.least-shared-ahead-else-self-other in least_swap (In c.args.other.now) (In c.args.self.now) r.result r.ensures
+    let r = c.least_shared_ahead-else-self-other in least_swap (In c.args.other.now) (In c.args.self.now) r.result r.ensures

@@ -6,8 +6,8 @@ pub returns : goal.returns
 returns c =
     let file = c.args.file.now in
     let at = c.args.place in
-    reads_well file at c.args.depth c.from-le-bytes-offset.result c.from-le-bytes-step.result c.from-le-bytes-count.result
-    (word_is file at 3 c.from-le-bytes-offset.result (omega (arith, c.from-le-bytes-offset.ensures)))
-    (word_is file at 5 c.from-le-bytes-step.result (omega (arith, c.from-le-bytes-step.ensures)))
-    (word_is file at 7 c.from-le-bytes-count.result (omega (arith, c.from-le-bytes-count.ensures))) _ _
-    (omega arith) c.if-file-place-ne-KIND.false (sym c.hole_allowed.ensures ∙ c.if-not-hole-allowed.false)
+    reads_well file at c.args.depth c.from_le_bytes-offset.result c.from_le_bytes-step.result c.from_le_bytes-count.result
+    (word_is file at 3 c.from_le_bytes-offset.result (omega (arith, c.from_le_bytes-offset.ensures)))
+    (word_is file at 5 c.from_le_bytes-step.result (omega (arith, c.from_le_bytes-step.ensures)))
+    (word_is file at 7 c.from_le_bytes-count.result (omega (arith, c.from_le_bytes-count.ensures))) _ _
+    (omega arith) c.if-file-place-ne-KIND.false (sym c.hole_allowed.ensures ∙ c.if-not-hole_allowed.false)

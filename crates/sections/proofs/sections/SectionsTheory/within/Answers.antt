@@ -7,4 +7,4 @@ pub returns : goal.returns
 returns c =
     let a = c.args.a.now in
     let b = c.args.b.now in
-    tells_same c.lies-within.result (within a b) (Included a b) c.lies-within.ensures (within_tells a b)
+    tells_same c.lies_within.result (within a b) (Included a b) c.lies_within.ensures (within_tells a b)
