@@ -6,7 +6,7 @@ use Rattle.paths.proofs.reading.+read_rest.Goals as goal
 
 pub returns-in_err-record : goal.returns-in_err-record
 returns-in_err-record t c =
-    let p = err_from_is_err_and c.from-residual.result c.from-residual.ensures.1 in
+    let p = err_from_is_err_and c.from_residual.result c.from_residual.ensures.1 in
     rw (p.1, p.2) (read_fault c.args.file.now c.args.depth c.args.pattern c.args.place (12 - c.args.pattern.len) _ c.in_err-record.ensures)
 
 pub returns-in-End : goal.returns-in-End
