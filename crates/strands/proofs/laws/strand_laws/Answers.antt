@@ -2,4 +2,4 @@ use Rattle.strands.proofs.Counting.{laws}
 use Rattle.strands.proofs.laws.strand_laws.Goals as goal
 
 pub returns : goal.returns
-returns g c = laws g.T.Pattern.Denot
+returns g c = laws _
