@@ -1,19 +1,18 @@
 -- Each way through the reading of effects, statements and blocks. Assumes nothing.
-use Rattle.std.proofs.Common.{◌≡◌, ℕ, zero, suc, ◌+◌, ◌-◌, ◌*◌, ◌<◌, ◌≤◌, min, Bool, true, false, cond, ◌&&◌, ltb, List, [], ◌∷◌, length, Some, None, Ok, Err, Option, Result, sym, refl, ap, ◌∙◌, arith, le-ltb, lt-ltb}
-use Rattle.theory.specs.declared.fault.Flaw.TheVariants.{Cut, Kind, TooMany}
+use Rattle.std.proofs.Common.{◌≡◌, ℕ, zero, suc, ◌-◌, ◌<◌, ◌≤◌, true, false, List, [], length, Some, None, Ok, Err, Result, refl, arith, le-ltb, lt-ltb}
+use Rattle.theory.specs.declared.fault.Flaw.TheVariants.{TooMany}
 use Rattle.theory.specs.Meaning.{Meaning}
 use Rattle.theory.specs.Reading.{byte}
-use Rattle.recipe.specs.declared.extent.Extent.{Extent}
 use Rattle.recipe.specs.declared.fault.Fault.{Fault}
 use Rattle.recipe.specs.declared.fault.Fault.TheVariants.{Record}
 use Rattle.recipe.specs.declared.head.Spot.{Spot}
-use Rattle.recipe.specs.declared.head.Spot.TheVariants.{Effects, Statements as InBlock, Guarded}
+use Rattle.recipe.specs.declared.head.Spot.TheVariants.{Effects}
 use Rattle.recipe.specs.declared.kinds.Kind.{Kind as RecordKind}
-use Rattle.recipe.specs.Blocks.{begins, block_at, branches, effects, may_stand, with_effect}
-use Rattle.recipe.specs.Extents.{added, capped, ending, extent, mapped}
+use Rattle.recipe.specs.Blocks.{begins, effects, with_effect}
+use Rattle.recipe.specs.Extents.{ending, mapped}
 use Rattle.recipe.specs.Kinds.{allowed, kind_of}
 use Rattle.recipe.specs.Records.{record_at, then}
-use Rattle.recipe.specs.Tree.{Rec, Effect, Block, Blocks, none, more, size, branched}
+use Rattle.recipe.specs.Tree.{Rec}
 
 module _ (file : List ℕ) (spot : Spot) (at : ℕ) where
   pub begins_past : length file ≤ at → false ≡ begins file spot at

@@ -1,14 +1,13 @@
 -- Each way through the list of cells. Assumes nothing.
-use Rattle.std.proofs.Common.{◌≡◌, ℕ, zero, suc, ◌+◌, ◌-◌, ◌<◌, ◌≤◌, Bool, true, false, cond, List, [], ◌∷◌, ◌++◌, length, is_some, Some, None, Ok, Err, Option, Result, sym, refl, ap, ◌∙◌, subst, add-suc, suc-add, arith}
+use Rattle.std.proofs.Common.{◌≡◌, ℕ, zero, suc, ◌+◌, ◌-◌, ◌<◌, ◌≤◌, true, false, List, [], ◌∷◌, ◌++◌, length, is_some, Some, None, Ok, Err, Option, sym, refl, ap, ◌∙◌, subst, arith}
 use Rattle.theory.specs.declared.fault.Flaw.TheVariants.{Kind, TooMany}
 use Rattle.theory.specs.Meaning.{Meaning}
 use Rattle.recipe.specs.declared.fault.Fault.{Fault}
 use Rattle.recipe.specs.declared.fault.Fault.TheVariants.{Record, Repeated}
 use Rattle.recipe.specs.declared.head.Spot.TheVariants.{Cells}
 use Rattle.recipe.specs.Blocks.{begins}
-use Rattle.recipe.specs.Cells.{cell_at, cell_pattern, cells, later, named, position, unfilled}
-use Rattle.recipe.specs.Extents.{mapped}
-use Rattle.recipe.specs.Listed.{counted, listed}
+use Rattle.recipe.specs.Cells.{cell_at, cell_pattern, cells, later, position, unfilled}
+use Rattle.recipe.specs.Listed.{listed}
 use Rattle.recipe.specs.Records.{record_at}
 use Rattle.recipe.specs.Tree.{Rec}
 

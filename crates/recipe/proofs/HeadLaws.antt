@@ -1,5 +1,5 @@
 -- Each way through the head of a record. Assumes nothing.
-use Rattle.std.proofs.Common.{◌≡◌, ℕ, ◌+◌, ◌<◌, ◌≤◌, true, false, ltb, leb, List, length, Some, None, Ok, Err, arith, le-ltb, lt-ltb, le-leb}
+use Rattle.std.proofs.Common.{◌≡◌, ℕ, ◌+◌, ◌<◌, ◌≤◌, true, false, List, length, Some, None, Ok, Err, le-ltb, lt-ltb, le-leb}
 use borrow.Author.Tests.{lt-leb}
 use Rattle.theory.specs.declared.fault.Flaw.TheVariants.{Cut, Kind as KindFlaw, Limit}
 use Rattle.theory.specs.Reading.{byte}

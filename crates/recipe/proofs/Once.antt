@@ -1,5 +1,5 @@
 -- In a list that grows by cells that it does not have, each cell is found where it stands. Assumes nothing.
-use Rattle.std.proofs.Common.{◌≡◌, ℕ, zero, suc, ◌+◌, Bool, true, false, cond, ◌⊎◌, List, [], ◌∷◌, ◌++◌, length, is_some, Some, None, Option, sym, refl, ap, ◌∙◌, subst, inl, inr, arith}
+use Rattle.std.proofs.Common.{◌≡◌, ℕ, zero, suc, Bool, true, false, cond, ◌⊎◌, List, [], ◌∷◌, ◌++◌, length, is_some, Some, None, Option, refl, ap, inl, inr, arith}
 use Rattle.theory.specs.Meaning.{Kept, Meaning}
 use Rattle.theory.specs.Telling.{yes_told}
 use Rattle.recipe.specs.Cells.{at_number, later, position}

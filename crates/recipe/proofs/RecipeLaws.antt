@@ -1,5 +1,5 @@
 -- Each way through the reading of a file. Assumes nothing.
-use Rattle.std.proofs.Common.{◌≡◌, ℕ, ◌<◌, ◌≤◌, eqb, leb, List, [], length, Ok, Err, Result, sym, refl, ap, subst, arith, eq-eqb, ne_eqb, le-leb}
+use Rattle.std.proofs.Common.{◌≡◌, ℕ, ◌<◌, ◌≤◌, List, [], length, Ok, Err, sym, refl, arith, eq-eqb, ne_eqb, le-leb}
 use borrow.Author.Tests.{lt-leb}
 use Rattle.theory.specs.Meaning.{Meaning}
 use Rattle.recipe.specs.declared.extent.Extent.{Extent}
@@ -9,7 +9,7 @@ use Rattle.recipe.specs.Blocks.{block_at}
 use Rattle.recipe.specs.Cells.{cells}
 use Rattle.recipe.specs.Extents.{capped, extent, mapped}
 use Rattle.recipe.specs.Listed.{counted}
-use Rattle.recipe.specs.Numbers.{Numbers, numbered}
+use Rattle.recipe.specs.Numbers.{numbered}
 use Rattle.recipe.specs.Recipes.{recipe_of}
 use Rattle.recipe.specs.Tree.{Block, size}
 use Rattle.recipe.proofs.RingLaws.{by_ok, was_err}

@@ -1,27 +1,27 @@
 -- Each way through the reading of statements and blocks, by where they end and how many strands they have. Assumes
 -- nothing.
-use Rattle.std.proofs.Common.{◌≡◌, ℕ, zero, suc, ◌+◌, ◌-◌, ◌*◌, ◌<◌, ◌≤◌, min, Bool, true, false, cond, ◌&&◌, ltb, ◌⊎◌, List, [], ◌∷◌, length, Some, None, Ok, Err, Option, Result, sym, refl, ap, subst, inl, inr, suc-mul, zero-mul, arith}
+use Rattle.std.proofs.Common.{◌≡◌, ℕ, zero, suc, ◌+◌, ◌-◌, ◌*◌, ◌<◌, ◌≤◌, Bool, true, false, ltb, ◌⊎◌, List, length, Some, None, Ok, Err, Option, Result, sym, refl, ap, subst, inl, inr, suc-mul, zero-mul, arith}
 use Rattle.std.proofs.lemmas.Bool.{and_parts, cases_lt, ltb-true}
-use Rattle.theory.specs.declared.fault.Flaw.TheVariants.{Cut, Kind, TooMany}
+use Rattle.theory.specs.declared.fault.Flaw.TheVariants.{Kind, TooMany}
 use Rattle.theory.specs.Meaning.{Meaning}
 use Rattle.recipe.specs.declared.extent.Extent.{Extent}
 use Rattle.recipe.specs.declared.fault.Fault.{Fault}
 use Rattle.recipe.specs.declared.fault.Fault.TheVariants.{Record}
 use Rattle.recipe.specs.declared.head.Spot.{Spot}
-use Rattle.recipe.specs.declared.head.Spot.TheVariants.{Effects, Statements as InBlock, Guarded}
+use Rattle.recipe.specs.declared.head.Spot.TheVariants.{Statements as InBlock, Guarded}
 use Rattle.recipe.specs.declared.kinds.Kind.{Kind as RecordKind}
 use Rattle.recipe.specs.declared.kinds.Kind.TheVariants.{Cell, Reads, Writes, Load, Store, Set, Add, Index, When, Less, Cobegin as CobeginKind, Foreach as ForeachKind, End}
 use Rattle.recipe.specs.declared.record.Fork.{Fork}
 use Rattle.recipe.specs.declared.record.Fork.TheVariants.{Cobegin, Foreach}
 use Rattle.recipe.specs.declared.outline.Outline.{Outline}
 use Rattle.recipe.specs.declared.outline.Outline.TheVariants.{Operation as OperationOutline, When as WhenOutline, Fork as ForkOutline, End as EndOutline, Other as OtherOutline}
-use Rattle.recipe.specs.Blocks.{Inner, block_at, branches, effects, forking, inner, most_effects, onward, plain, statement, statement_of, statements, under}
+use Rattle.recipe.specs.Blocks.{Inner, block_at, branches, effects, forking, inner, onward, plain, statement, statement_of, statements, under}
 use Rattle.recipe.specs.Extents.{added, capped, ending, extent, mapped, statement_extent}
 use Rattle.recipe.specs.Heads.{head, tested}
 use Rattle.recipe.specs.Kinds.{has_room, roomy}
 use Rattle.recipe.specs.Records.{body, made_of, pattern, record_at, single_pattern, then}
 use Rattle.recipe.specs.Outlines.{Roomy, outline_of, outlined}
-use Rattle.recipe.specs.Tree.{Rec, cell, effect, operation, when, fork, end, Operation, Effect, Block, block, Statements, stop, next, Statement, simple, guarded, cobegin, foreach, Blocks, none, more, size, sizes, forked, branched}
+use Rattle.recipe.specs.Tree.{Rec, cell, effect, operation, when, fork, end, Block, block, Statements, next, Statement, guarded, cobegin, foreach, Blocks, none, more, size, sizes, forked, branched}
 
 -- what is shown of a result by what its image was
 module _ {X Y : Type 0} (g : X → Y) where

@@ -1,9 +1,9 @@
 -- The table of body lengths holds what the kinds say. Assumes nothing.
-use Rattle.std.proofs.Common.{◌≡◌, ℕ, zero, suc, ◌+◌, ◌<◌, ◌≤◌, Bool, true, false, cond, ◌&&◌, eqb, List, [], ◌∷◌, length, get_or, Some, None, Option, sym, refl, ap, ◌∙◌, add-zero, add-suc, suc-add, zero-add, arith, eqb-true}
+use Rattle.std.proofs.Common.{◌≡◌, ℕ, zero, suc, ◌+◌, ◌<◌, ◌≤◌, Bool, true, false, cond, ◌&&◌, eqb, List, [], ◌∷◌, get_or, Some, refl, ap, ◌∙◌, add-zero, add-suc, suc-add, zero-add, arith, eqb-true}
 use Rattle.std.proofs.lemmas.Bool.{and_parts}
 use Rattle.std.proofs.lemmas.Bool.Decides.{nat_tests}
 use Rattle.recipe.specs.declared.kinds.Kind.{Kind}
-use Rattle.recipe.specs.Kinds.{body_length, body_of, kind_in, kind_of, kinds, looked_up, named}
+use Rattle.recipe.specs.Kinds.{body_length, body_of, kind_in, kind_of, named}
 
 -- the list of a function's values from a number on
 abbrev table : (ℕ → ℕ) → ℕ → ℕ → List ℕ

@@ -2,7 +2,7 @@
 --
 -- forks    how many more forks may be nested
 -- depth    how many foreach enclose
-use Rattle.std.specs.Prelude.{ℕ, zero, suc, ◌+◌, Bool, true, false, cond, List, [], ◌∷◌, length, Some, None, Ok, Err, Option, Result, nat_lt}
+use Rattle.std.specs.Prelude.{ℕ, zero, suc, ◌+◌, Bool, false, cond, List, [], ◌∷◌, length, Some, None, Ok, Err, Option, Result, nat_lt}
 use Rattle.theory.specs.declared.fault.Flaw.TheVariants.{Cut, Kind, TooMany}
 use Rattle.theory.specs.Meaning.{Meaning}
 use Rattle.theory.specs.Reading.{byte}
@@ -11,10 +11,9 @@ use Rattle.recipe.specs.declared.fault.Fault.TheVariants.{Record}
 use Rattle.recipe.specs.declared.head.Spot.{Spot}
 use Rattle.recipe.specs.declared.head.Spot.TheVariants.{Effects, Statements as InBlock, Guarded}
 use Rattle.recipe.specs.declared.kinds.Kind.{Kind as RecordKind}
-use Rattle.recipe.specs.declared.kinds.Kind.TheVariants.{Reads, Writes}
 use Rattle.recipe.specs.declared.record.Fork.{Fork}
 use Rattle.recipe.specs.declared.record.Fork.TheVariants.{Cobegin, Foreach}
-use Rattle.recipe.specs.Kinds.{in_effects, allowed, kind_of}
+use Rattle.recipe.specs.Kinds.{allowed, kind_of}
 use Rattle.recipe.specs.Records.{record_at, then}
 use Rattle.recipe.specs.Tree.{Rec, cell, effect, operation, when, fork, end, Effect, Block, block, Statements, stop, next, Statement, simple, guarded, cobegin, foreach, Blocks, none, more}
 

@@ -1,5 +1,5 @@
 -- Where parts of a file end, and how many strands they have. Assumes nothing.
-use Rattle.std.specs.Prelude.{ℕ, ◌+◌, min, List, Some, None, Ok, Err, Option, Result}
+use Rattle.std.specs.Prelude.{ℕ, ◌+◌, min, Some, None, Ok, Err, Option, Result}
 use Rattle.recipe.specs.declared.extent.Extent.{Extent}
 use Rattle.recipe.specs.declared.fault.Fault.{Fault}
 use Rattle.recipe.specs.Tree.{Statement, forked}

@@ -1,5 +1,5 @@
 -- What the records of a file read as, under a theory. Assumes nothing.
-use Rattle.std.specs.Prelude.{◌≡◌, ℕ, ◌+◌, ◌-◌, ◌*◌, Bool, cond, List, take, drop, Ok, Err, Result}
+use Rattle.std.specs.Prelude.{ℕ, ◌+◌, ◌*◌, cond, List, Ok, Err, Result}
 use Rattle.theory.specs.declared.fault.Flaw.TheVariants.{TooMany}
 use Rattle.theory.specs.declared.fault.PatternFault.{PatternFault}
 use Rattle.theory.specs.Meaning.{Meaning}
@@ -13,7 +13,7 @@ use Rattle.recipe.specs.declared.record.Fork.TheVariants.{Cobegin as CobeginFork
 use Rattle.recipe.specs.declared.record.Mode.TheVariants.{Reads as ReadsMode, Writes as WritesMode}
 use Rattle.recipe.specs.Heads.{head, tested}
 use Rattle.recipe.specs.Kinds.{has_room}
-use Rattle.recipe.specs.Tree.{Rec, cell, effect, operation, when, fork, end, Operation, load, store, set, add, index, less}
+use Rattle.recipe.specs.Tree.{Rec, cell, effect, operation, when, fork, end, load, store, set, add, index, less}
 
 -- what follows a value that was read; the fault where none was
 abbrev pub then : {X Y : Type 0} → Result X Fault → (X → Result Y Fault) → Result Y Fault

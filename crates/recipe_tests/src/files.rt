@@ -70,7 +70,7 @@ fn the_worked_file(rt: HostRuntime) -> Result<(), Fail> {
     says::<Sections>(&rt, &WORKED, Said::Recipe(3, 4))?;
     says::<Paths>(&rt, &WORKED, Said::Pattern(3, 1))?;
     match Recipe::read::<Sections>(&WORKED) {
-        Ok(recipe) => assert!(rt; recipe.file() == &WORKED),
+        Ok(recipe) => assert!(rt; recipe.file() == WORKED.as_slice()),
         Err(_) => return Err(Fail::new("refused")),
     }
     for (place, end, expected) in BEGINNINGS {

@@ -1,5 +1,5 @@
 -- Sections and patterns are equal where their numbers are, and what the bytes of a whole body read as. Assumes nothing.
-use Rattle.std.proofs.Common.{◌≡◌, ℕ, suc, ◌+◌, ◌*◌, ◌<◌, ◌≤◌, Bool, true, eqb, ltb, leb, List, length, Ok, Err, Result, ap, ◌∙◌, subst, arith, lt-ltb, eq-eqb, le-leb}
+use Rattle.std.proofs.Common.{◌≡◌, ℕ, suc, ◌+◌, ◌*◌, ◌<◌, ◌≤◌, true, List, length, Ok, Result, ap, ◌∙◌, subst, arith, lt-ltb, eq-eqb, le-leb}
 use native.Mathlib.Bridge.{le_prop}
 use native.Mathlib.Decide.{dec_lt}
 use Rattle.theory.specs.declared.fault.PatternFault.{PatternFault}

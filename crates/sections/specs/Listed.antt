@@ -1,5 +1,5 @@
 -- Going through the cells one by one answers membership, inclusion and sharing. Assumes nothing.
-use Rattle.std.specs.Prelude.{◌≡◌, ℕ, zero, suc, ◌+◌, ◌*◌, ◌<◌, ◌≤◌, Bool, true, false, cond, ◌&&◌, ◌||◌, List, [], ◌∷◌, Some, None, Option, ◌==◌, ◌≢◌, nat_eq, refl}
+use Rattle.std.specs.Prelude.{◌≡◌, ℕ, zero, suc, ◌+◌, ◌*◌, ◌<◌, Bool, true, false, cond, ◌&&◌, ◌||◌, Some, None, Option, ◌==◌, ◌≢◌, nat_eq}
 use Rattle.std.proofs.Common.{subst, mul-zero, mul-suc}
 use native.Mathlib.Omega.{arith}
 use Rattle.theory.specs.Meaning.{Tells}

@@ -3,7 +3,7 @@
 -- hole     which enclosing foreach fills the pattern: 1 the outermost, 0 none
 -- scale    by how much the first cell moves with each index
 -- offset   the first cell at index 0
-use Rattle.std.specs.Prelude.{ℕ, ◌+◌, ◌*◌, ◌<◌, ◌≤◌, Bool, cond, not, ◌&&◌, ◌||◌, List, length, Ok, Err, Result, ◌==◌, nat_eq, nat_le, nat_lt}
+use Rattle.std.specs.Prelude.{ℕ, ◌+◌, ◌*◌, ◌<◌, Bool, cond, not, ◌&&◌, ◌||◌, List, length, Ok, Err, Result, ◌==◌, nat_eq, nat_le, nat_lt}
 use Rattle.std.proofs.Math.Decide.{dec_lt}
 use Rattle.theory.specs.declared.fault.PatternFault.{PatternFault}
 use Rattle.theory.specs.declared.fault.Flaw.TheVariants.{Cut, Kind, Limit}

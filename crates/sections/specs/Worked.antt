@@ -1,7 +1,6 @@
 -- Worked sections, as (first, step, count). Assumes nothing.
 use Rattle.std.specs.Prelude.{◌≡◌, ℕ, ◌<◌, true, Some, None}
 use Rattle.std.proofs.Common.{arith}
-use Rattle.theory.specs.Meaning.{Included}
 use Rattle.sections.specs.declared.section.Section.{Section}
 use Rattle.sections.specs.SectionMeaning.{section_meaning}
 

@@ -1,10 +1,10 @@
 -- The list of strands is as long as the sizes say, and a number leads to the part that it falls into. Assumes nothing.
-use Rattle.std.proofs.Common.{◌≡◌, ℕ, zero, suc, ◌+◌, ◌-◌, ◌*◌, ◌/◌, ◌%◌, ◌<◌, ◌≤◌, List, [], ◌∷◌, ◌++◌, length, set, Some, None, Option, sym, refl, ap, ◌∙◌, suc-mul, zero-mul, arith, length-append}
+use Rattle.std.proofs.Common.{◌≡◌, ℕ, zero, suc, ◌+◌, ◌-◌, ◌*◌, ◌<◌, ◌≤◌, List, [], ◌∷◌, ◌++◌, length, set, Some, None, sym, refl, ap, ◌∙◌, suc-mul, zero-mul, arith, length-append}
 use Rattle.recipe.specs.Tree.{Block, block, Statements, stop, next, Statement, simple, guarded, cobegin, foreach, Blocks, none, more, size, sizes, forked, branched}
 use Rattle.strands.proofs.Rows.{of_rows}
 use Rattle.strands.specs.StrandLaws.{StrandLaws}
 use Rattle.recipe.specs.Cells.{at_number}
-use Rattle.strands.specs.Strands.{Strand, each, strands_of, strands_in, strands_under, strands_beside}
+use Rattle.strands.specs.Strands.{each, strands_of, strands_in, strands_under, strands_beside}
 
 each_length : {X : Type 0} (n i s : ℕ) (f : ℕ → List X) → ((j : ℕ) → length (f j) ≡ s) → length (each n i f) ≡ n * s
 each_length zero i s f h = sym (zero-mul s)

@@ -1,15 +1,15 @@
 -- The search for a strand, turn by turn. Assumes nothing.
-use Rattle.std.proofs.Common.{◌≡◌, ℕ, zero, suc, ◌+◌, ◌-◌, ◌*◌, ◌/◌, ◌%◌, ◌<◌, ◌≤◌, true, leb, ◌⊎◌, List, ◌++◌, length, set, Some, None, Ok, Err, Option, Result, sym, refl, ap, ◌∙◌, subst, inl, inr, mul-le-mul_right, mod-lt, mod-eq_of_lt, suc-mul, mul_comm, zero-mul, arith, le-leb}
+use Rattle.std.proofs.Common.{◌≡◌, ℕ, zero, suc, ◌+◌, ◌-◌, ◌*◌, ◌/◌, ◌%◌, ◌<◌, ◌≤◌, true, ◌⊎◌, List, ◌++◌, length, set, Some, None, Ok, Err, Option, Result, sym, refl, ap, ◌∙◌, inl, inr, mul-le-mul_right, mod-lt, mod-eq_of_lt, suc-mul, mul_comm, zero-mul, arith, le-leb}
 use native.Mathlib.Nat.{mod-eq-sub-mod, div-add-mod, div-eq_of_lt, div-eq-sub-div}
 use Rattle.std.proofs.lemmas.Bool.{cases_lt}
 use borrow.Author.Tests.{lt-leb}
 use Rattle.theory.specs.Meaning.{Meaning}
 use Rattle.recipe.specs.declared.fault.Fault.{Fault}
 use Rattle.recipe.specs.Blocks.{block_at, branches, inner, statement, statements}
-use Rattle.recipe.specs.Tree.{Block, Blocks, none, more, Statement, Statements, next, size, branched, forked, sizes}
+use Rattle.recipe.specs.Tree.{Block, Blocks, none, Statement, Statements, size, branched, forked, sizes}
 use Rattle.strands.specs.declared.site.Site.{Site}
 use Rattle.recipe.specs.Cells.{at_number}
-use Rattle.strands.specs.Strands.{Strand, each, strands_beside, strands_in, strands_of, strands_under}
+use Rattle.strands.specs.Strands.{each, strands_beside, strands_in, strands_of, strands_under}
 use Rattle.strands.proofs.Counting.{at_first, at_past, at_second, of_length, under_length}
 use Rattle.recipe.specs.declared.extent.Extent.{Extent}
 use Rattle.recipe.specs.declared.outline.Outline.{Outline}
@@ -17,19 +17,19 @@ use Rattle.recipe.specs.declared.outline.Outline.TheVariants.{Operation as Opera
 use Rattle.recipe.specs.declared.record.Fork.{Fork}
 use Rattle.recipe.specs.declared.record.Fork.TheVariants.{Cobegin, Foreach}
 use Rattle.recipe.specs.declared.head.Spot.TheVariants.{Statements as InBlock, Guarded}
-use Rattle.recipe.specs.Blocks.{effects, forking, under}
+use Rattle.recipe.specs.Blocks.{effects, forking}
 use Rattle.recipe.specs.Extents.{capped, ending, extent, mapped as over, statement_extent}
 use Rattle.recipe.specs.Cells.{unfilled}
 use Rattle.recipe.specs.Kinds.{roomy}
 use Rattle.recipe.specs.Outlines.{outlined}
 use Rattle.recipe.specs.Records.{record_at}
-use Rattle.recipe.specs.Tree.{block, cobegin, foreach, guarded}
+use Rattle.recipe.specs.Tree.{block, foreach}
 use Rattle.recipe.proofs.RingLaws.{branches_none, by_ok, inner_less, some_forks, was_err}
 use Rattle.std.specs.Option.{option_map}
 use Rattle.strands.specs.Finding.{FoundInBlock, FoundInBranches, FoundInFork, FoundInStatement, FoundInStatements, FoundUnder}
 use Rattle.strands.specs.Located.{found_in, located, strand_at}
-use Rattle.recipe.proofs.Accepted.{same_end, same_what}
-use Rattle.strands.proofs.Parts.{BlockParts, Further, MoreBlocks, block_parts, branches_further, cobegin_parts, foreach_parts, StatementParts, statement_parts, statement_read, statements_further, UnderParts, under_parts, under_read}
+use Rattle.recipe.proofs.Accepted.{same_what}
+use Rattle.strands.proofs.Parts.{block_parts, branches_further, cobegin_parts, foreach_parts, StatementParts, statement_parts, statement_read, statements_further, UnderParts, under_parts, under_read}
 
 module _ {P R C : Type 0} (m : Meaning P R C) (file : List ℕ) (site : Site) (is : List ℕ) where
   -- what is left of a list of blocks holds the strand, under what is left of its number

@@ -1,16 +1,15 @@
 -- What a part of a file that was read consists of. Assumes nothing.
-use Rattle.std.proofs.Common.{◌≡◌, ℕ, zero, suc, ◌+◌, ◌-◌, ◌<◌, ◌≤◌, true, ◌⊎◌, List, length, Some, None, Ok, Err, Option, Result, sym, refl, ap, ◌∙◌, subst, inl, inr, arith}
+use Rattle.std.proofs.Common.{◌≡◌, ℕ, zero, suc, ◌+◌, ◌-◌, ◌<◌, ◌⊎◌, List, length, Some, None, Ok, Err, Option, Result, sym, ap, ◌∙◌, subst, inl, inr, arith}
 use Rattle.theory.specs.Meaning.{Meaning}
 use Rattle.recipe.specs.declared.fault.Fault.{Fault}
 use Rattle.recipe.specs.declared.head.Spot.TheVariants.{Statements as InBlock, Guarded}
-use Rattle.recipe.specs.declared.record.Fork.{Fork}
 use Rattle.recipe.specs.declared.record.Fork.TheVariants.{Cobegin, Foreach}
 use Rattle.recipe.specs.Blocks.{Inner, block_at, branches, effects, forking, inner, onward, plain, statement, statement_of, statements, under}
 use Rattle.recipe.specs.declared.outline.Outline.{Outline}
 use Rattle.recipe.specs.declared.outline.Outline.TheVariants.{Operation as OperationOutline, When as WhenOutline, Fork as ForkOutline, End as EndOutline, Other as OtherOutline}
 use Rattle.recipe.specs.Extents.{mapped}
-use Rattle.recipe.specs.Outlines.{outline_of, outlined}
-use Rattle.recipe.specs.Records.{record_at, then}
+use Rattle.recipe.specs.Outlines.{outlined}
+use Rattle.recipe.specs.Records.{record_at}
 use Rattle.recipe.proofs.Accepted.{then_ok, same_end, same_what, value}
 use Rattle.recipe.specs.Tree.{Rec, cell, effect, operation, when, fork, end, Effect, Block, block, Statements, stop, next, Statement, simple, guarded, cobegin, foreach, Blocks, none, more, forked, sizes, branched}
 

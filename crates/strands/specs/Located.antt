@@ -1,5 +1,5 @@
 -- From a strand's number to the place of its block and its indices. Assumes nothing.
-use Rattle.std.specs.Prelude.{ℕ, cond, List, [], ◌∷◌, Some, None, Ok, Err, Option, Result, nat_le}
+use Rattle.std.specs.Prelude.{ℕ, cond, List, None, Ok, Err, Option, Result, nat_le}
 use Rattle.std.specs.Option.{option_map}
 use Rattle.theory.specs.Meaning.{Meaning}
 use Rattle.recipe.specs.declared.fault.Fault.{Fault}

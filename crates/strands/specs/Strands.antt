@@ -3,7 +3,7 @@
 -- strand    one instance of a block: the block, how many more forks may be nested in it, how many foreach enclose it,
 --           and the three indices that fill its patterns
 -- number    the place of a strand in the list of all strands, counted from 0
-use Rattle.std.specs.Prelude.{ℕ, zero, suc, ◌+◌, ◌-◌, ◌≤◌, List, [], ◌∷◌, ◌++◌, slice_set}
+use Rattle.std.specs.Prelude.{ℕ, zero, suc, ◌+◌, ◌-◌, List, [], ◌∷◌, ◌++◌, slice_set}
 use Rattle.recipe.specs.Tree.{Block, block, Statements, stop, next, Statement, simple, guarded, cobegin, foreach, Blocks, none, more}
 
 pub record Strand (P : Type 0) : Type 0 where

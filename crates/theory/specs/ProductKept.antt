@@ -1,9 +1,9 @@
 -- A product keeps its meaning, whatever two theories it is made of. Assumes nothing.
-use Rattle.std.specs.Prelude.{◌≡◌, ℕ, ◌<◌, ◌≤◌, Bool, true, false, ◌&&◌, List, length, Some, None, Ok, Err, Option, Result}
+use Rattle.std.specs.Prelude.{◌≡◌, ℕ, ◌<◌, ◌&&◌, List, Some, None, Ok, Err, Option, Result}
 use Rattle.std.proofs.Common.{ap, arith}
 use Rattle.theory.specs.declared.fault.PatternFault.{PatternFault}
 use Rattle.theory.specs.declared.product.Product.{Product}
-use Rattle.theory.specs.Meaning.{Meaning, Kept, Filling, Inside, Included, Shared, Single, Sole, Tells}
+use Rattle.theory.specs.Meaning.{Meaning, Kept, Inside, Included, Shared, Single}
 use Rattle.theory.specs.ProductMeaning.{both, joined, onward, product_meaning}
 use Rattle.theory.specs.Telling.{tells_as, tells_both}
 

@@ -1,5 +1,5 @@
 -- The product of two theories: its regions hold one region of each, its cells one cell of each. Assumes nothing.
-use Rattle.std.specs.Prelude.{ℕ, Bool, ◌&&◌, List, Some, None, Ok, Err, Option, Result}
+use Rattle.std.specs.Prelude.{ℕ, ◌&&◌, List, Some, None, Ok, Err, Option, Result}
 use Rattle.theory.specs.declared.fault.PatternFault.{PatternFault}
 use Rattle.theory.specs.declared.product.Product.{Product}
 use Rattle.theory.specs.Meaning.{Meaning}

@@ -1,6 +1,6 @@
 -- Answers that say yes exactly when a fact holds. Assumes nothing.
 use Rattle.std.specs.Prelude.{◌≡◌, ℕ, ◌<◌, ◌≤◌, Bool, true, false, ◌&&◌, T, ◌==◌, nat_le, nat_lt, refl}
-use Rattle.std.proofs.Common.{sym, subst, arith, leb→le, le→leb, eqb→eq, ltb→lt, lt→ltb}
+use Rattle.std.proofs.Common.{subst, arith, leb→le, le→leb, eqb→eq, ltb→lt, lt→ltb}
 use Rattle.std.proofs.Math.Dec.{eqb_refl}
 use Rattle.theory.specs.Meaning.{Tells}
 

@@ -1,4 +1,4 @@
-use Rattle.std.proofs.Common.{◌≡◌, sym, refl, ap, ◌∙◌, arith}
+use Rattle.std.proofs.Common.{sym, ap, ◌∙◌, arith}
 use Rattle.recipe.specs.Extents.{ending, mapped}
 use Rattle.recipe.proofs.BlockLaws as law
 use Rattle.recipe.proofs.blocks.read_effects.Goals as goal

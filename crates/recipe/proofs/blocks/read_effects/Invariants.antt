@@ -1,4 +1,4 @@
-use Rattle.std.proofs.Common.{◌≡◌, ◌-◌, ◌≤◌, length}
+use Rattle.std.proofs.Common.{◌≡◌, ◌≤◌}
 use Rattle.recipe.specs.Blocks.{effects}
 use Rattle.recipe.specs.Extents.{ending, mapped}
 use Rattle.recipe.proofs.blocks.read_effects.Given as goal

@@ -1,4 +1,4 @@
-use Rattle.std.proofs.Common.{◌≡◌, ◌-◌, ◌≤◌, length}
+use Rattle.std.proofs.Common.{◌≡◌, ◌-◌}
 use Rattle.recipe.specs.Cells.{position}
 use Rattle.recipe.specs.Listed.{listed}
 use Rattle.recipe.proofs.CellLaws.{shifted}

@@ -1,4 +1,4 @@
-use Rattle.std.proofs.Common.{◌≡◌, sym, ap, ◌∙◌}
+use Rattle.std.proofs.Common.{sym, ap, ◌∙◌}
 use Rattle.recipe.specs.Said.{said, viewed}
 use Rattle.recipe.proofs.CellLaws as law
 use Rattle.recipe.proofs.cells.read_cell.Goals as goal

@@ -1,7 +1,6 @@
 use Rattle.std.proofs.Common.{◌≡◌, ◌-◌, ◌≤◌, [], length}
 use Rattle.recipe.specs.Cells.{cells}
-use Rattle.recipe.specs.Extents.{mapped}
-use Rattle.recipe.specs.Listed.{counted, listed}
+use Rattle.recipe.specs.Listed.{listed}
 use Rattle.recipe.proofs.CellLaws.{Walks}
 use Rattle.recipe.proofs.cells.read_cells.Given as goal
 

@@ -1,4 +1,4 @@
-use Rattle.std.proofs.Common.{◌≡◌, ◌+◌, ◌<◌, ◌≤◌, length, sym, ◌∙◌, arith}
+use Rattle.std.proofs.Common.{◌+◌, ◌≤◌, length, sym, ◌∙◌, arith}
 use Rattle.recipe.specs.Kinds.{body_of}
 use Rattle.recipe.proofs.HeadLaws as law
 use Rattle.recipe.proofs.Table.{lengths_agree}

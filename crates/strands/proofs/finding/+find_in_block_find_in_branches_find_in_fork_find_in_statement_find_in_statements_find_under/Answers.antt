@@ -1,4 +1,4 @@
-use Rattle.std.proofs.Common.{◌≡◌, ℕ, ◌+◌, ◌-◌, ◌*◌, ◌/◌, ◌%◌, ◌<◌, ◌≤◌, List, Some, None, Ok, Option, sym, refl, ap, ◌∙◌, subst}
+use Rattle.std.proofs.Common.{ℕ, ◌+◌, ◌-◌, ◌%◌, List, None, Ok, Option, sym, ap, ◌∙◌, subst}
 use Rattle.recipe.specs.declared.outline.Outline.{Outline}
 use Rattle.strands.specs.Finding.{FoundInBlock}
 use Rattle.strands.proofs.Left as law

@@ -1,4 +1,4 @@
-use Rattle.std.proofs.Common.{◌≡◌, sym, refl, ap}
+use Rattle.std.proofs.Common.{refl}
 use Rattle.recipe.proofs.RecipeLaws as law
 use Rattle.recipe.proofs.recipe.Recipe.read.Goals as goal
 

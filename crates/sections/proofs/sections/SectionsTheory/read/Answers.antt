@@ -1,4 +1,4 @@
-use Rattle.std.proofs.Common.{◌≡◌, sym, ◌∙◌, arith}
+use Rattle.std.proofs.Common.{sym, ◌∙◌, arith}
 use Rattle.sections.proofs.Built.{reads_well, word_is}
 use Rattle.sections.proofs.sections.SectionsTheory.read.Goals as goal
 
