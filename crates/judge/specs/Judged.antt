@@ -8,7 +8,7 @@ use Rattle.theory.specs.ProductMeaning.{product_meaning}
 use Rattle.sections.specs.SectionMeaning.{section_meaning}
 use Rattle.paths.specs.PathsMeaning.{paths_meaning}
 use Rattle.recipe.specs.declared.fault.Fault.{Fault}
-use Rattle.recipe.specs.Extents.{mapped}
+use Rattle.recipe.specs.Records.{mapped}
 use Rattle.recipe.specs.Fault.{fault_told}
 use Rattle.recipe.specs.Numbers.{Numbers, numbered}
 use Rattle.recipe.specs.Recipes.{recipe_of}

@@ -1,49 +1,23 @@
 -- What holds of every file that reads. Assumes nothing.
-use Rattle.std.proofs.Common.{◌≡◌, ℕ, zero, suc, ◌+◌, ◌≤◌, Bool, true, false, cond, eqb, leb, List, [], ◌∷◌, ◌++◌, length, is_some, Ok, Err, Result, sym, refl, ap, ◌∙◌, subst, arith, leb-true}
+use Rattle.std.proofs.Common.{◌≡◌, ℕ, zero, suc, ◌+◌, ◌≤◌, Bool, true, false, cond, eqb, leb, List, [], ◌∷◌, ◌++◌, length, is_some, Ok, Result, sym, refl, ap, ◌∙◌, subst, arith, leb-true}
 use Rattle.theory.specs.Meaning.{Kept, Meaning}
 use Rattle.recipe.specs.declared.fault.Fault.{Fault}
 use Rattle.recipe.specs.declared.fault.Fault.TheVariants.{Repeated}
 use Rattle.recipe.specs.declared.head.Spot.TheVariants.{Cells}
-use Rattle.recipe.specs.Blocks.{begins, block_at}
+use Rattle.recipe.specs.Blocks.{block_at}
 use Rattle.recipe.specs.Cells.{cell_at, cells, listing, position}
 use Rattle.recipe.specs.Listed.{listed}
 use Rattle.recipe.specs.RecipeLaws.{RecipeLaws}
 use Rattle.recipe.specs.Recipes.{Tree, recipe_of, whole_file}
+use Rattle.recipe.specs.Heads.{begins}
 use Rattle.recipe.specs.Records.{then}
 use Rattle.recipe.specs.Tree.{Block, size}
+use Rattle.recipe.proofs.Results.{absent, met, same_tree, same_what, then_ok}
 use Rattle.recipe.proofs.Once.{Once, once_more, once_none}
+use Rattle.recipe.specs.WellFormed.{WellFormed}
+use Rattle.recipe.proofs.Rise.{rise_block}
+use Rattle.recipe.proofs.Whole.{once_distinct, read_lies, well_formed_reads}
 use Rattle.recipe.proofs.CellLaws.{Walks, none_listed, walks_length, walks_listed, walks_on}
-
--- what a result was made of
-pub then_ok : {A B : Type 0} (x : Result A Fault) (g : A → Result B Fault) {b : B} → then x g ≡ Ok b → (a : A) × (x ≡ Ok a) × (g a ≡ Ok b)
-then_ok (Ok a) g e = (a, refl, e)
-then_ok (Err f) g e = let z : ◌≡◌ {A = ℕ} 0 1 = cc in absurd (omega arith)
-
--- a test that was met, or not
-met : {A : Type 0} (t : Bool) (x : Result A Fault) (f : Fault) (a : A) → cond t x (Err f) ≡ Ok a → (t ≡ true) × (x ≡ Ok a)
-met true x f a e = (refl, e)
-met false x f a e = let z : ◌≡◌ {A = ℕ} 0 1 = cc in absurd (omega arith)
-
-absent : {A : Type 0} (t : Bool) (x : Result A Fault) (f : Fault) (a : A) → cond t (Err f) x ≡ Ok a → (t ≡ false) × (x ≡ Ok a)
-absent true x f a e = let z : ◌≡◌ {A = ℕ} 0 1 = cc in absurd (omega arith)
-absent false x f a e = (refl, e)
-
-unfoldable pub value : {A : Type 0} → A → Result A Fault → A
-value d (Ok a) = a
-value d (Err f) = d
-
--- a reading gave one value and one end
-pub same_what : {A : Type 0} (a b : A) (n k : ℕ) → ◌≡◌ {A = Result (A × ℕ) Fault} (Ok (a, n)) (Ok (b, k)) → a ≡ b
-unfolding value
-same_what {A} a b n k e = ap (λ (r : Result (A × ℕ) Fault). (value (a, n) r).0) e
-
-pub same_end : {A : Type 0} (a b : A) (n k : ℕ) → ◌≡◌ {A = Result (A × ℕ) Fault} (Ok (a, n)) (Ok (b, k)) → n ≡ k
-unfolding value
-same_end {A} a b n k e = ap (λ (r : Result (A × ℕ) Fault). (value (a, n) r).1) e
-
-same_tree : {A : Type 0} (a b : A) → ◌≡◌ {A = Result A Fault} (Ok a) (Ok b) → a ≡ b
-unfolding value
-same_tree {A} a b e = ap (λ (r : Result A Fault). value a r) e
 
 module _ {P R C : Type 0} (m : Meaning P R C) (kept : Kept m) (file : List ℕ) where
   abbrev Grown : (k room : ℕ) → List m.Point → Type 0
@@ -90,6 +64,12 @@ module _ {P R C : Type 0} (m : Meaning P R C) (kept : Kept m) (file : List ℕ) 
       let g = grown 128 0 0 from xs refl (subst (Once m) (sym (none_listed m file 0)) (once_none m)) (subst (λ (seen : List m.Point). cells m file 128 seen 0 ≡ Ok (xs, from)) (sym (none_listed m file 0)) c) in
       (leb-true (length file) 16384 short, fits t xs from b after g w)
 
+well_formed : {P R C : Type 0} (m : Meaning P R C) → Kept m → (file : List ℕ) (t : Tree P m.Point) → recipe_of m file ≡ Ok t → WellFormed m file t
+well_formed m kept file t h =
+    let (short, fits) = accepted m kept file t h in
+    let (cells, root) = read_lies m file t h in
+    record { short = short; few_cells = fits.0; few_strands = fits.1; once = once_distinct m t.cells fits.3; cells_lie = cells; root_lies = root }
+
 pub laws : {P R C : Type 0} (m : Meaning P R C) → Kept m → RecipeLaws m
 laws m kept = record {
   short = λ file t h. (accepted m kept file t h).0;
@@ -97,4 +77,8 @@ laws m kept = record {
   few_strands = λ file t h. (accepted m kept file t h).1.1;
   in_order = λ file t h. (accepted m kept file t h).1.2;
   once = λ file t h. (accepted m kept file t h).1.3;
+  sound = well_formed m kept;
+  complete = λ file t w. well_formed_reads m file kept t w;
+  unique = λ file t u v w. same_tree t u (sym (well_formed_reads m file kept t v) ∙ well_formed_reads m file kept u w);
+  rising = λ file t h. rise_block m kept file t.root 6 0 t.from (length file) (read_lies m file t h).1;
 }

@@ -1,31 +1,15 @@
 -- Each way through the reading of effects, statements and blocks. Assumes nothing.
-use Rattle.std.proofs.Common.{◌≡◌, ℕ, zero, suc, ◌-◌, ◌<◌, ◌≤◌, true, false, List, [], length, Some, None, Ok, Err, Result, refl, arith, le-ltb, lt-ltb}
+use Rattle.std.proofs.Common.{◌≡◌, ℕ, zero, suc, ◌-◌, true, false, List, [], Ok, Err, Result, refl, arith}
 use Rattle.theory.specs.declared.fault.Flaw.TheVariants.{TooMany}
 use Rattle.theory.specs.Meaning.{Meaning}
-use Rattle.theory.specs.Reading.{byte}
 use Rattle.recipe.specs.declared.fault.Fault.{Fault}
 use Rattle.recipe.specs.declared.fault.Fault.TheVariants.{Record}
-use Rattle.recipe.specs.declared.head.Spot.{Spot}
 use Rattle.recipe.specs.declared.head.Spot.TheVariants.{Effects}
-use Rattle.recipe.specs.declared.kinds.Kind.{Kind as RecordKind}
-use Rattle.recipe.specs.Blocks.{begins, effects, with_effect}
-use Rattle.recipe.specs.Extents.{ending, mapped}
-use Rattle.recipe.specs.Kinds.{allowed, kind_of}
-use Rattle.recipe.specs.Records.{record_at, then}
-use Rattle.recipe.specs.Tree.{Rec}
-
-module _ (file : List ℕ) (spot : Spot) (at : ℕ) where
-  pub begins_past : length file ≤ at → false ≡ begins file spot at
-  unfolding begins
-  begins_past h = rw (le-ltb at (length file) h)
-
-  pub begins_none : at < length file → kind_of (byte file at) ≡ None → false ≡ begins file spot at
-  unfolding begins
-  begins_none h e = rw (lt-ltb at (length file) h, e)
-
-  pub begins_some : at < length file → (k : RecordKind) → kind_of (byte file at) ≡ Some k → allowed spot k ≡ begins file spot at
-  unfolding begins
-  begins_some h k e = rw (lt-ltb at (length file) h, e)
+use Rattle.recipe.specs.Blocks.{effects, with_effect}
+use Rattle.recipe.specs.Heads.{begins}
+use Rattle.recipe.specs.Records.{mapped, record_at, then}
+use Rattle.recipe.specs.Extents.{ending}
+use Rattle.recipe.specs.Rec.{Rec}
 
 -- where what was read ends
 module _ {X Y : Type 0} where

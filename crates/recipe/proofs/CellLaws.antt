@@ -5,11 +5,11 @@ use Rattle.theory.specs.Meaning.{Meaning}
 use Rattle.recipe.specs.declared.fault.Fault.{Fault}
 use Rattle.recipe.specs.declared.fault.Fault.TheVariants.{Record, Repeated}
 use Rattle.recipe.specs.declared.head.Spot.TheVariants.{Cells}
-use Rattle.recipe.specs.Blocks.{begins}
-use Rattle.recipe.specs.Cells.{cell_at, cell_pattern, cells, later, position, unfilled}
-use Rattle.recipe.specs.Listed.{listed}
+use Rattle.recipe.specs.Cells.{cell_at, cells, later, position, unfilled}
+use Rattle.recipe.specs.Heads.{begins}
 use Rattle.recipe.specs.Records.{record_at}
-use Rattle.recipe.specs.Tree.{Rec}
+use Rattle.recipe.specs.Listed.{listed}
+use Rattle.recipe.specs.Rec.{cell_pattern, Rec}
 
 -- a position counted from further on
 abbrev pub shifted : ℕ → Option ℕ → Option ℕ

@@ -7,7 +7,7 @@ use Rattle.recipe.specs.declared.fault.Fault.TheVariants.{Record}
 use Rattle.recipe.specs.declared.head.Spot.{Spot}
 use Rattle.recipe.specs.declared.kinds.Kind.{Kind}
 use Rattle.recipe.specs.Kinds.{allowed, body_of, in_limits, kind_of}
-use Rattle.recipe.specs.Heads.{head}
+use Rattle.recipe.specs.Heads.{begins, head}
 
 module _ (file : List ℕ) (spot : Spot) (depth at : ℕ) where
   pub head_missing : length file ≤ at → Err (Record Cut at) ≡ head file spot depth at
@@ -35,3 +35,17 @@ module _ (file : List ℕ) (spot : Spot) (depth at : ℕ) where
       pub head_well : at + 1 + body_of kind ≤ length file → in_limits file kind depth at ≡ true → Ok kind ≡ head file spot depth at
       unfolding head
       head_well c l = rw (lt-ltb at (length file) h, e, a, le-leb (at + 1 + body_of kind) (length file) c, l)
+
+-- whether a record begins
+module _ (file : List ℕ) (spot : Spot) (at : ℕ) where
+  pub begins_past : length file ≤ at → false ≡ begins file spot at
+  unfolding begins
+  begins_past h = rw (le-ltb at (length file) h)
+
+  pub begins_none : at < length file → kind_of (byte file at) ≡ None → false ≡ begins file spot at
+  unfolding begins
+  begins_none h e = rw (lt-ltb at (length file) h, e)
+
+  pub begins_some : at < length file → (k : Kind) → kind_of (byte file at) ≡ Some k → allowed spot k ≡ begins file spot at
+  unfolding begins
+  begins_some h k e = rw (lt-ltb at (length file) h, e)

@@ -2,8 +2,15 @@ pub mod Accepted
 pub mod BlockLaws
 pub mod CellLaws
 pub mod HeadLaws
+pub mod Lying
 pub mod Once
+pub mod Parts
+pub mod Reading
 pub mod RecipeLaws
 pub mod RecordLaws
+pub mod RecordParts
+pub mod Results
 pub mod RingLaws
+pub mod Rise
 pub mod Table
+pub mod Whole

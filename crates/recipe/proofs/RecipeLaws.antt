@@ -7,12 +7,13 @@ use Rattle.recipe.specs.declared.fault.Fault.{Fault}
 use Rattle.recipe.specs.declared.fault.Fault.TheVariants.{TooLong, Spare, TooManyStrands}
 use Rattle.recipe.specs.Blocks.{block_at}
 use Rattle.recipe.specs.Cells.{cells}
-use Rattle.recipe.specs.Extents.{capped, extent, mapped}
+use Rattle.recipe.specs.Records.{mapped}
+use Rattle.recipe.specs.Extents.{capped, extent}
 use Rattle.recipe.specs.Listed.{counted}
 use Rattle.recipe.specs.Numbers.{numbered}
 use Rattle.recipe.specs.Recipes.{recipe_of}
 use Rattle.recipe.specs.Tree.{Block, size}
-use Rattle.recipe.proofs.RingLaws.{by_ok, was_err}
+use Rattle.recipe.proofs.Results.{by_ok, was_err}
 
 module _ {P R C : Type 0} (m : Meaning P R C) (file : List ℕ) where
   pub recipe_long : 16384 < length file → Err TooLong ≡ mapped numbered (recipe_of m file)

@@ -1,37 +1,25 @@
 -- Each way through the reading of statements and blocks, by where they end and how many strands they have. Assumes
 -- nothing.
-use Rattle.std.proofs.Common.{◌≡◌, ℕ, zero, suc, ◌+◌, ◌-◌, ◌*◌, ◌<◌, ◌≤◌, Bool, true, false, ltb, ◌⊎◌, List, length, Some, None, Ok, Err, Option, Result, sym, refl, ap, subst, inl, inr, suc-mul, zero-mul, arith}
+use Rattle.std.proofs.Common.{◌≡◌, ℕ, zero, suc, ◌+◌, ◌-◌, ◌*◌, ◌<◌, ◌≤◌, true, ltb, ◌⊎◌, List, length, Some, None, Ok, Err, Option, Result, sym, refl, ap, inl, inr, suc-mul, zero-mul, arith}
 use Rattle.std.proofs.lemmas.Bool.{and_parts, cases_lt, ltb-true}
-use Rattle.theory.specs.declared.fault.Flaw.TheVariants.{Kind, TooMany}
+use Rattle.theory.specs.declared.fault.Flaw.TheVariants.{Kind}
 use Rattle.theory.specs.Meaning.{Meaning}
 use Rattle.recipe.specs.declared.extent.Extent.{Extent}
 use Rattle.recipe.specs.declared.fault.Fault.{Fault}
 use Rattle.recipe.specs.declared.fault.Fault.TheVariants.{Record}
-use Rattle.recipe.specs.declared.head.Spot.{Spot}
 use Rattle.recipe.specs.declared.head.Spot.TheVariants.{Statements as InBlock, Guarded}
-use Rattle.recipe.specs.declared.kinds.Kind.{Kind as RecordKind}
-use Rattle.recipe.specs.declared.kinds.Kind.TheVariants.{Cell, Reads, Writes, Load, Store, Set, Add, Index, When, Less, Cobegin as CobeginKind, Foreach as ForeachKind, End}
 use Rattle.recipe.specs.declared.record.Fork.{Fork}
 use Rattle.recipe.specs.declared.record.Fork.TheVariants.{Cobegin, Foreach}
 use Rattle.recipe.specs.declared.outline.Outline.{Outline}
 use Rattle.recipe.specs.declared.outline.Outline.TheVariants.{Operation as OperationOutline, When as WhenOutline, Fork as ForkOutline, End as EndOutline, Other as OtherOutline}
+use Rattle.recipe.proofs.Results.{by_ok, was_err}
 use Rattle.recipe.specs.Blocks.{Inner, block_at, branches, effects, forking, inner, onward, plain, statement, statement_of, statements, under}
-use Rattle.recipe.specs.Extents.{added, capped, ending, extent, mapped, statement_extent}
-use Rattle.recipe.specs.Heads.{head, tested}
-use Rattle.recipe.specs.Kinds.{has_room, roomy}
-use Rattle.recipe.specs.Records.{body, made_of, pattern, record_at, single_pattern, then}
-use Rattle.recipe.specs.Outlines.{Roomy, outline_of, outlined}
-use Rattle.recipe.specs.Tree.{Rec, cell, effect, operation, when, fork, end, Block, block, Statements, next, Statement, guarded, cobegin, foreach, Blocks, none, more, size, sizes, forked, branched}
-
--- what is shown of a result by what its image was
-module _ {X Y : Type 0} (g : X → Y) where
-  pub by_ok : (Q : Result X Fault → Y → Type 0) → ((a : X) → Q (Ok a) (g a)) → (r : Result X Fault) (y : Y) → Ok y ≡ mapped g r → Q r y
-  by_ok Q q (Ok a) y e = let same : g a ≡ y = cc in subst (λ z. Q (Ok a) z) same (q a)
-  by_ok Q q (Err f) y e = let z : ◌≡◌ {A = ℕ} 0 1 = cc in absurd (omega arith)
-
-  pub was_err : (r : Result X Fault) (f : Fault) → Err f ≡ mapped g r → r ≡ Err f
-  was_err (Ok a) f e = let z : ◌≡◌ {A = ℕ} 0 1 = cc in absurd (omega arith)
-  was_err (Err u) f e = let same : u ≡ f = cc in ap (λ v. Err v) same
+use Rattle.recipe.specs.Records.{mapped, record_at, then}
+use Rattle.recipe.specs.Extents.{added, capped, ending, extent, statement_extent}
+use Rattle.recipe.specs.Kinds.{roomy}
+use Rattle.recipe.specs.Outlines.{outlined}
+use Rattle.recipe.specs.Rec.{Rec, cell, effect, operation, when, fork, end}
+use Rattle.recipe.specs.Tree.{Block, block, Statements, next, Statement, guarded, cobegin, foreach, Blocks, none, more, size, sizes, forked, branched}
 
 -- counting strands in parts
 capped_sum : (a b : ℕ) → capped (capped a + capped b) ≡ capped (a + b)
@@ -62,43 +50,6 @@ pub at_last : (n at : ℕ) → n ≤ 1025 → Ok (record { end = at; strands = n
 at_last n at h = ap (λ k. Ok (record { end = at; strands = k })) (omega arith)
 
 module _ {P R C : Type 0} (m : Meaning P R C) (file : List ℕ) where
-  -- a fork that is read has room
-  abbrev RoomyRecord : (forks depth : ℕ) → Result (Rec P × ℕ) Fault → Type 0
-  RoomyRecord forks depth (Ok (r, e)) = Roomy (outline_of r) forks depth
-  RoomyRecord forks depth (Err f) = Unit {0}
-
-  module _ (forks depth at : ℕ) where
-    made_roomy : (make : P → Rec P) → ((p : P) (e : ℕ) → RoomyRecord forks depth (Ok (make p, e))) → (x : Result (P × ℕ) Fault) → RoomyRecord forks depth (then x (made_of m file make))
-    made_roomy make h (Ok (p, e)) = h p e
-    made_roomy make h (Err f) = tt
-
-    body_roomy : (k : RecordKind) → has_room k forks depth ≡ true → RoomyRecord forks depth (body m file k depth at)
-    body_roomy Cell h = made_roomy _ (λ p e. tt) (single_pattern m file at depth (at + 1))
-    body_roomy Reads h = made_roomy _ (λ p e. tt) (pattern m file depth (at + 1))
-    body_roomy Writes h = made_roomy _ (λ p e. tt) (pattern m file depth (at + 1))
-    body_roomy Load h = made_roomy _ (λ p e. tt) (single_pattern m file at depth (at + 2))
-    body_roomy Store h = made_roomy _ (λ p e. tt) (single_pattern m file at depth (at + 2))
-    body_roomy Set h = tt
-    body_roomy Add h = tt
-    body_roomy Index h = tt
-    body_roomy When h = tt
-    body_roomy Less h = tt
-    body_roomy CobeginKind h = h
-    body_roomy ForeachKind h = h
-    body_roomy End h = tt
-
-    tested_roomy : (k : RecordKind) (t : Bool) → has_room k forks depth ≡ t → RoomyRecord forks depth (tested t TooMany at (body m file k depth at))
-    tested_roomy k true h = body_roomy k h
-    tested_roomy k false h = tt
-
-    head_roomy : (x : Result RecordKind Fault) → RoomyRecord forks depth (then x (λ kind. tested (has_room kind forks depth) TooMany at (body m file kind depth at)))
-    head_roomy (Ok k) = tested_roomy k (has_room k forks depth) refl
-    head_roomy (Err f) = tt
-
-    pub record_roomy : (spot : Spot) (r : Rec P) (e : ℕ) → Ok (r, e) ≡ record_at m file spot forks depth at → Roomy (outline_of r) forks depth
-    unfolding record_at
-    record_roomy spot r e h = subst (RoomyRecord forks depth) (sym h) (head_roomy (head file spot depth at))
-
   -- blocks one after another
   module _ (inside : Inner m file) (depth : ℕ) where
     pub branches_none : (n at : ℕ) → n ≤ 0 → branches m file inside n depth at ≡ Ok (none, at)

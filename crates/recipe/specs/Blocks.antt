@@ -2,34 +2,24 @@
 --
 -- forks    how many more forks may be nested
 -- depth    how many foreach enclose
-use Rattle.std.specs.Prelude.{ℕ, zero, suc, ◌+◌, Bool, false, cond, List, [], ◌∷◌, length, Some, None, Ok, Err, Option, Result, nat_lt}
+use Rattle.std.specs.Prelude.{ℕ, zero, suc, ◌+◌, cond, List, [], ◌∷◌, length, Some, None, Ok, Err, Option, Result}
 use Rattle.theory.specs.declared.fault.Flaw.TheVariants.{Cut, Kind, TooMany}
 use Rattle.theory.specs.Meaning.{Meaning}
-use Rattle.theory.specs.Reading.{byte}
 use Rattle.recipe.specs.declared.fault.Fault.{Fault}
 use Rattle.recipe.specs.declared.fault.Fault.TheVariants.{Record}
-use Rattle.recipe.specs.declared.head.Spot.{Spot}
 use Rattle.recipe.specs.declared.head.Spot.TheVariants.{Effects, Statements as InBlock, Guarded}
-use Rattle.recipe.specs.declared.kinds.Kind.{Kind as RecordKind}
 use Rattle.recipe.specs.declared.record.Fork.{Fork}
 use Rattle.recipe.specs.declared.record.Fork.TheVariants.{Cobegin, Foreach}
-use Rattle.recipe.specs.Kinds.{allowed, kind_of}
+use Rattle.recipe.specs.Heads.{begins}
 use Rattle.recipe.specs.Records.{record_at, then}
-use Rattle.recipe.specs.Tree.{Rec, cell, effect, operation, when, fork, end, Effect, Block, block, Statements, stop, next, Statement, simple, guarded, cobegin, foreach, Blocks, none, more}
+use Rattle.recipe.specs.Rec.{Rec, cell, effect, operation, when, fork, end}
+use Rattle.recipe.specs.Tree.{Effect, Block, block, Statements, stop, next, Statement, simple, guarded, cobegin, foreach, Blocks, none, more}
 
 abbrev pub most_effects : ℕ
 most_effects = 16
 
 abbrev pub most_forks : ℕ
 most_forks = 6
-
--- whether a record that may stand at the spot begins at a place
-abbrev pub may_stand : Spot → Option RecordKind → Bool
-may_stand spot None = false
-may_stand spot (Some kind) = allowed spot kind
-
-unfoldable pub begins : List ℕ → Spot → ℕ → Bool
-begins file spot at = cond (nat_lt at (length file)) (may_stand spot (kind_of (byte file at))) false
 
 module _ {P R C : Type 0} (m : Meaning P R C) (file : List ℕ) where
   -- the effects from a place on, of which so many more may come, and their end

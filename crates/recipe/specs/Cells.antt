@@ -5,9 +5,9 @@ use Rattle.theory.specs.Meaning.{Meaning}
 use Rattle.recipe.specs.declared.fault.Fault.{Fault}
 use Rattle.recipe.specs.declared.fault.Fault.TheVariants.{Record, Repeated}
 use Rattle.recipe.specs.declared.head.Spot.TheVariants.{Cells}
-use Rattle.recipe.specs.Blocks.{begins}
+use Rattle.recipe.specs.Heads.{begins}
 use Rattle.recipe.specs.Records.{record_at, then}
-use Rattle.recipe.specs.Tree.{Rec, cell, effect, operation, when, fork, end}
+use Rattle.recipe.specs.Rec.{cell_pattern, Rec}
 
 abbrev pub most_cells : ℕ
 most_cells = 128
@@ -25,15 +25,6 @@ abbrev pub at_number : {X : Type 0} → List X → ℕ → Option X
 at_number [] k = None
 at_number (x ∷ xs) zero = Some x
 at_number (x ∷ xs) (suc k) = at_number xs k
-
--- the pattern of a Cell
-abbrev pub cell_pattern : {P : Type 0} → Rec P → Option P
-cell_pattern (cell p) = Some p
-cell_pattern (effect mode p) = None
-cell_pattern (operation o) = None
-cell_pattern (when r) = None
-cell_pattern (fork f) = None
-cell_pattern end = None
 
 module _ {P R C : Type 0} (m : Meaning P R C) where
   -- where a cell stands in a list, counted from 0

@@ -11,10 +11,6 @@ most_strands = 1024
 abbrev pub capped : ℕ → ℕ
 capped n = min n 1025
 
-abbrev pub mapped : {X Y : Type 0} → (X → Y) → Result X Fault → Result Y Fault
-mapped f (Ok x) = Ok (f x)
-mapped f (Err e) = Err e
-
 -- the extent of what was read, by its number of strands
 abbrev pub extent : {X : Type 0} → (X → ℕ) → X × ℕ → Extent
 extent strands (x, end) = record { end = end; strands = capped (strands x) }

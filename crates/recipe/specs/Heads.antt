@@ -1,5 +1,5 @@
 -- The head of a record: its kind byte and its body, tested in order. Assumes nothing.
-use Rattle.std.specs.Prelude.{ℕ, ◌+◌, Bool, cond, List, length, Some, None, Ok, Err, Option, Result, nat_le, nat_lt}
+use Rattle.std.specs.Prelude.{ℕ, ◌+◌, Bool, false, cond, List, length, Some, None, Ok, Err, Option, Result, nat_le, nat_lt}
 use Rattle.theory.specs.declared.fault.Flaw.{Flaw}
 use Rattle.theory.specs.declared.fault.Flaw.TheVariants.{Cut, Kind as KindFlaw, Limit}
 use Rattle.theory.specs.Reading.{byte}
@@ -24,3 +24,11 @@ whole file spot depth at (Some kind) =
 -- the kind byte is within the file
 unfoldable pub head : List ℕ → Spot → (depth at : ℕ) → Result Kind Fault
 head file spot depth at = tested (nat_lt at (length file)) Cut at (whole file spot depth at (kind_of (byte file at)))
+
+-- whether a record that may stand at the spot begins at a place
+abbrev pub may_stand : Spot → Option Kind → Bool
+may_stand spot None = false
+may_stand spot (Some kind) = allowed spot kind
+
+unfoldable pub begins : List ℕ → Spot → ℕ → Bool
+begins file spot at = cond (nat_lt at (length file)) (may_stand spot (kind_of (byte file at))) false

@@ -7,8 +7,10 @@ pub mod Kinds
 pub mod Listed
 pub mod Numbers
 pub mod Outlines
+pub mod Rec
 pub mod RecipeLaws
 pub mod Recipes
 pub mod Records
 pub mod Said
 pub mod Tree
+pub mod WellFormed

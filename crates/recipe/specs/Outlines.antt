@@ -3,7 +3,7 @@ use Rattle.std.specs.Prelude.{◌≡◌, ℕ, true}
 use Rattle.recipe.specs.declared.outline.Outline.{Outline}
 use Rattle.recipe.specs.declared.outline.Outline.TheVariants.{Operation as OperationOutline, When, Fork, End, Other}
 use Rattle.recipe.specs.Kinds.{roomy}
-use Rattle.recipe.specs.Tree.{Rec, cell, effect, operation, when, fork, end}
+use Rattle.recipe.specs.Rec.{Rec, cell, effect, operation, when, fork, end}
 
 abbrev pub outline_of : {P : Type 0} → Rec P → Outline
 outline_of (cell p) = Other

@@ -13,12 +13,16 @@ use Rattle.recipe.specs.declared.record.Fork.TheVariants.{Cobegin as CobeginFork
 use Rattle.recipe.specs.declared.record.Mode.TheVariants.{Reads as ReadsMode, Writes as WritesMode}
 use Rattle.recipe.specs.Heads.{head, tested}
 use Rattle.recipe.specs.Kinds.{has_room}
-use Rattle.recipe.specs.Tree.{Rec, cell, effect, operation, when, fork, end, load, store, set, add, index, less}
+use Rattle.recipe.specs.Rec.{Rec, cell, effect, operation, when, fork, end, load, store, set, add, index, less}
 
 -- what follows a value that was read; the fault where none was
 abbrev pub then : {X Y : Type 0} → Result X Fault → (X → Result Y Fault) → Result Y Fault
 then (Ok x) next = next x
 then (Err f) next = Err f
+
+abbrev pub mapped : {X Y : Type 0} → (X → Y) → Result X Fault → Result Y Fault
+mapped f (Ok x) = Ok (f x)
+mapped f (Err e) = Err e
 
 abbrev pub in_pattern : {X : Type 0} → Result X PatternFault → Result X Fault
 in_pattern (Ok x) = Ok x

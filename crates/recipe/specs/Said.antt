@@ -7,7 +7,7 @@ use Rattle.recipe.specs.declared.record.Operation.TheVariants.{Load, Store, Set,
 use Rattle.recipe.specs.declared.record.Pattern.{Pattern}
 use Rattle.recipe.specs.declared.record.Record.{Record}
 use Rattle.recipe.specs.declared.record.Record.TheVariants.{Cell, Effect, Operation as OperationRecord, When, Fork, End}
-use Rattle.recipe.specs.Tree.{Rec, cell, effect, operation, when, fork, end, Operation, load, store, set, add, index, less}
+use Rattle.recipe.specs.Rec.{Rec, cell, effect, operation, when, fork, end, Operation, load, store, set, add, index, less}
 
 abbrev pub done : {P : Type 0} → OperationCode P → Operation P
 done (Load r p) = load r p.pattern
@@ -37,6 +37,10 @@ patterned (Err f) = Err f
 abbrev pub viewed : {X : Type 0} → Option (Bor X) → Option X
 viewed (Some r) = Some r.now
 viewed None = None
+
+abbrev pub viewed_with : {M X : Type 0} → Option (M × Bor X) → Option (M × X)
+viewed_with (Some (mode, r)) = Some (mode, r.now)
+viewed_with None = None
 
 -- the bytes of a file from one place to another
 abbrev pub part : List ℕ → ℕ → ℕ → List ℕ

@@ -1,35 +1,17 @@
 -- A recipe as a tree: its records, each with its place, in the order of the file. Assumes nothing.
 --
 -- effect      Reads or Writes, and a pattern
--- operation   a statement that does its work in one step
 -- fork        a Cobegin and its branches, or a Foreach and its block
 -- guarded     a statement under a When
 -- size        the number of strands of a block: its own, and those of the forks in it
 use Rattle.std.specs.Prelude.{ℕ, suc, ◌+◌, ◌*◌, List}
-use Rattle.recipe.specs.declared.record.Fork.{Fork}
 use Rattle.recipe.specs.declared.record.Mode.{Mode}
+use Rattle.recipe.specs.Rec.{Operation}
 
 pub record Effect (P : Type 0) : Type 0 where
   pub place : ℕ
   pub mode : Mode
   pub pattern : P
-
-pub data Operation (P : Type 0) : Type 0 where
-  load : ℕ → P → Operation P
-  store : ℕ → P → Operation P
-  set : ℕ → ℕ → Operation P
-  add : ℕ → ℕ → Operation P
-  index : ℕ → ℕ → Operation P
-  less : ℕ → ℕ → ℕ → Operation P
-
--- one record, with what its body and its pattern say
-pub data Rec (P : Type 0) : Type 0 where
-  cell : P → Rec P
-  effect : Mode → P → Rec P
-  operation : Operation P → Rec P
-  when : ℕ → Rec P
-  fork : Fork → Rec P
-  end : Rec P
 
 mutual
   -- place, effects, statements

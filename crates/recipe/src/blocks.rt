@@ -1,32 +1,19 @@
 ghost use Rattle.std.specs.Prelude.{◌≡◌, ℕ, suc, ◌+◌, ◌<◌, ◌≤◌, true, length, IfOk};
-ghost use Rattle.recipe.specs.Blocks.{begins as begins-at, block_at, branches, effects, forking, inner, statement, statements, under};
-ghost use Rattle.recipe.specs.Extents.{ending, extent, mapped, statement_extent};
+ghost use Rattle.recipe.specs.Blocks.{block_at, branches, effects, forking, inner, statement, statements, under};
+ghost use Rattle.recipe.specs.Records.{mapped};
+ghost use Rattle.recipe.specs.Extents.{ending, extent, statement_extent};
 ghost use Rattle.recipe.specs.Kinds.{roomy};
 ghost use Rattle.recipe.specs.Tree.{branched, forked, size, sizes};
 
 use crate::extent::{Extent, counted};
 use crate::fault::Fault;
-use crate::head::Spot;
-use crate::kinds::Kind;
+use crate::head::{Spot, begins};
 use crate::outline::{Outline, read_outline};
 use crate::read::read_record;
 use crate::record::Fork;
 use theory::{Flaw, Theory};
 
 const MOST_EFFECTS: u8 = 16;
-
-// Whether a record that may stand at the spot begins at the place.
-pub(crate) fn begins(file: &[u8], spot: Spot, place: usize) -> bool
-    ensures { result ≡ begins-at file.now spot place }
-{
-    if place >= file.len() {
-        return false;
-    }
-    match Kind::of(file[place]) {
-        Some(kind) => spot.allows(kind),
-        None => false,
-    }
-}
 
 /// The end of the effects from a place on, or the first fault in them.
 pub fn read_effects<T: Theory>(file: &[u8], depth: u8, place: usize) -> Result<usize, Fault>

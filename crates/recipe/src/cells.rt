@@ -1,14 +1,11 @@
 ghost use Rattle.std.specs.Prelude.{◌≡◌, ◌<◌, ◌≤◌, [], length, IfOk};
-ghost use Rattle.recipe.specs.Cells.{cell_at, cell_pattern, cells, position};
-ghost use Rattle.recipe.specs.Said.{said, viewed};
+ghost use Rattle.recipe.specs.Cells.{cell_at, cells, position};
 ghost use Rattle.recipe.specs.Listed.{counted, listed, pointed_at};
-ghost use Rattle.recipe.specs.Extents.{mapped};
+ghost use Rattle.recipe.specs.Records.{mapped};
 
-use crate::blocks::begins;
 use crate::fault::Fault;
-use crate::head::Spot;
+use crate::head::{Spot, begins};
 use crate::read::read_record;
-use crate::record::Record;
 use theory::{Flaw, Indices, Theory};
 
 const MOST_CELLS: u8 = 128;
@@ -16,20 +13,8 @@ const MOST_CELLS: u8 = 128;
 // No foreach encloses a Cell.
 const UNFILLED: Indices = [0, 0, 0];
 
-impl<P> Record<'_, P> {
-    // The pattern of a Cell.
-    fn cell_pattern(&self) -> Option<&P>
-        ensures { viewed result ≡ cell_pattern (said self.now) }
-    {
-        match self {
-            Record::Cell(pattern) => Some(&pattern.pattern),
-            _ => None,
-        }
-    }
-}
-
-// The cell of the Cell at a place, and its end.
-fn read_cell<T: Theory>(file: &[u8], place: usize) -> Result<(T::Cell, usize), Fault>
+/// The cell of the Cell at a place, and its end.
+pub fn read_cell<T: Theory>(file: &[u8], place: usize) -> Result<(T::Cell, usize), Fault>
     ensures is { pointed_at T.Theory.meaning result ≡ cell_at T.Theory.meaning file.now place }
     ensures whole { IfOk result (λ x. (place < x.1) × (x.1 ≤ length file.now)) }
 {

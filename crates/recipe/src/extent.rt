@@ -9,8 +9,8 @@ pub struct Extent {
     pub strands: u16,
 }
 
-// A number of strands, counted that far.
-pub(crate) fn counted(strands: u32) -> u16
+/// A number of strands, counted that far.
+pub fn counted(strands: u32) -> u16
     ensures { result ≡ capped strands }
 {
     if strands > 1025 { 1025 } else { strands as u16 }

@@ -1,6 +1,6 @@
 ghost use Rattle.std.specs.Prelude.{◌≡◌, ◌+◌, ◌<◌, ◌≤◌, length, IfOk};
 ghost use Rattle.recipe.specs.Kinds.{allowed, body_of, has_room, in_limits};
-ghost use Rattle.recipe.specs.Heads.{head};
+ghost use Rattle.recipe.specs.Heads.{begins as begins_at, head};
 
 use crate::fault::Fault;
 use crate::kinds::{Kind, body_length};
@@ -86,4 +86,17 @@ pub(crate) fn read_head(file: &[u8], spot: Spot, depth: u8, place: usize) -> Res
         return Err(Fault::Record(Flaw::Limit, place));
     }
     Ok(kind)
+}
+
+/// Whether a record that may stand at the spot begins at the place.
+pub fn begins(file: &[u8], spot: Spot, place: usize) -> bool
+    ensures { result ≡ begins_at file.now spot place }
+{
+    if place >= file.len() {
+        return false;
+    }
+    match Kind::of(file[place]) {
+        Some(kind) => spot.allows(kind),
+        None => false,
+    }
 }

@@ -2,8 +2,9 @@ ghost use Rattle.recipe.specs.RecipeLaws.{RecipeLaws};
 
 use theory::Theory;
 
-/// What holds of every file that reads: it keeps the limits, its cells are those that its first Cell
-/// records name, in their order, and none is listed twice.
+/// The files that read are exactly the well-formed ones, so a file is one recipe at most. What holds of
+/// each: it keeps the limits, its cells are those that its first Cell records name, in their order, none
+/// is listed twice, and the places of the records of its root rise within the file.
 pub fn recipe_laws<T: Theory>()
     ensures { RecipeLaws T.Theory.meaning }
 {}

@@ -14,9 +14,10 @@ mod recipe;
 mod record;
 
 pub use blocks::{read_block, read_effects, read_statement};
-pub use extent::Extent;
+pub use cells::read_cell;
+pub use extent::{Extent, counted};
 pub use fault::Fault;
-pub use head::Spot;
+pub use head::{Spot, begins};
 pub use kinds::{Kind, body_length};
 pub use laws::recipe_laws;
 pub use outline::{Outline, read_outline};

@@ -1,7 +1,6 @@
 ghost use Rattle.std.specs.Prelude.{◌≡◌, ◌<◌, ◌≤◌, length, IfOk};
-ghost use Rattle.recipe.specs.Extents.{mapped};
+ghost use Rattle.recipe.specs.Records.{mapped, record_at};
 ghost use Rattle.recipe.specs.Outlines.{Roomy, outline_of, outlined};
-ghost use Rattle.recipe.specs.Records.{record_at};
 ghost use Rattle.recipe.specs.Said.{said};
 
 use crate::fault::Fault;
@@ -40,8 +39,8 @@ pub fn read_outline<T: Theory>(
 }
 
 impl<P> Record<'_, P> {
-    // The outline of the record.
-    fn outline(&self) -> Outline
+    /// The outline of the record.
+    pub fn outline(&self) -> Outline
         ensures { result ≡ outline_of (said self.now) }
     {
         match self {

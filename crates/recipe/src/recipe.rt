@@ -2,7 +2,7 @@ ghost use Rattle.std.specs.Prelude.{◌≡◌, IfOk};
 ghost use Rattle.recipe.specs.Cells.{position};
 ghost use Rattle.recipe.specs.Listed.{listed};
 ghost use Rattle.recipe.specs.Numbers.{numbered, numbers};
-ghost use Rattle.recipe.specs.Extents.{mapped};
+ghost use Rattle.recipe.specs.Records.{mapped};
 ghost use Rattle.recipe.specs.Recipes.{recipe_of};
 
 use crate::blocks::read_block;

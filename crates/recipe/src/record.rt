@@ -1,3 +1,7 @@
+ghost use Rattle.std.specs.Prelude.{◌≡◌};
+ghost use Rattle.recipe.specs.Rec.{access_made, cell_pattern, effect_stated};
+ghost use Rattle.recipe.specs.Said.{said, viewed, viewed_with};
+
 /// A pattern, with its bytes in the file.
 #[derive(Drop)]
 pub struct Pattern<'a, P> {
@@ -46,4 +50,40 @@ pub enum Record<'a, P> {
     When(u8),
     Fork(Fork),
     End,
+}
+
+impl<P> Record<'_, P> {
+    /// The pattern of a Cell.
+    pub fn cell_pattern(&self) -> Option<&P>
+        ensures { viewed result ≡ cell_pattern (said self.now) }
+    {
+        match self {
+            Record::Cell(pattern) => Some(&pattern.pattern),
+            _ => None,
+        }
+    }
+
+    /// What an effect states, and of which pattern.
+    pub fn effect(&self) -> Option<(Mode, &P)>
+        ensures { viewed_with result ≡ effect_stated (said self.now) }
+    {
+        match self {
+            Record::Effect(mode, pattern) => Some((*mode, &pattern.pattern)),
+            _ => None,
+        }
+    }
+
+    /// What an access does to the cell of its pattern: a Load reads it, and a Store writes it.
+    pub fn access(&self) -> Option<(Mode, &P)>
+        ensures { viewed_with result ≡ access_made (said self.now) }
+    {
+        match self {
+            Record::Operation(Operation::Load(_, pattern)) => Some((Mode::Reads, &pattern.pattern)),
+            Record::Operation(Operation::Store(_, pattern)) => Some((
+                Mode::Writes,
+                &pattern.pattern,
+            )),
+            _ => None,
+        }
+    }
 }

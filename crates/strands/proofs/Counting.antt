@@ -1,8 +1,6 @@
 -- The list of strands is as long as the sizes say, and a number leads to the part that it falls into. Assumes nothing.
 use Rattle.std.proofs.Common.{◌≡◌, ℕ, zero, suc, ◌+◌, ◌-◌, ◌*◌, ◌<◌, ◌≤◌, List, [], ◌∷◌, ◌++◌, length, set, Some, None, sym, refl, ap, ◌∙◌, suc-mul, zero-mul, arith, length-append}
 use Rattle.recipe.specs.Tree.{Block, block, Statements, stop, next, Statement, simple, guarded, cobegin, foreach, Blocks, none, more, size, sizes, forked, branched}
-use Rattle.strands.proofs.Rows.{of_rows}
-use Rattle.strands.specs.StrandLaws.{StrandLaws}
 use Rattle.recipe.specs.Cells.{at_number}
 use Rattle.strands.specs.Strands.{each, strands_of, strands_in, strands_under, strands_beside}
 
@@ -49,20 +47,7 @@ at_past [] k h = refl
 at_past (x ∷ xs) zero h = absurd (omega arith)
 at_past (x ∷ xs) (suc k) h = at_past xs k (omega arith)
 
-at_some : {X : Type 0} (xs : List X) (k : ℕ) → k < length xs → (x : X) × (at_number xs k ≡ Some x)
+pub at_some : {X : Type 0} (xs : List X) (k : ℕ) → k < length xs → (x : X) × (at_number xs k ≡ Some x)
 at_some [] k h = absurd (omega arith)
 at_some (x ∷ xs) zero h = (x, refl)
 at_some (x ∷ xs) (suc k) h = at_some xs k (omega arith)
-
-own : {P : Type 0} (b : Block P) (forks depth : ℕ) (is : List ℕ) → at_number (strands_of b forks depth is) 0 ≡ Some (record { body = b; forks = forks; depth = depth; indices = is })
-unfolding strands_of
-own (block at es ss) forks depth is = refl
-
-pub laws : (P : Type 0) → StrandLaws P
-laws P = record {
-  counted = of_length;
-  own = own;
-  onto = λ b forks depth is k h. at_some (strands_of b forks depth is) k (omega (arith, of_length b forks depth is));
-  beyond = λ b forks depth is k h. at_past (strands_of b forks depth is) k (omega (arith, of_length b forks depth is));
-  in_row = of_rows;
-}

@@ -5,10 +5,10 @@ use Rattle.std.proofs.lemmas.Bool.{cases_lt}
 use borrow.Author.Tests.{lt-leb}
 use Rattle.theory.specs.Meaning.{Meaning}
 use Rattle.recipe.specs.declared.fault.Fault.{Fault}
-use Rattle.recipe.specs.Blocks.{block_at, branches, inner, statement, statements}
-use Rattle.recipe.specs.Tree.{Block, Blocks, none, Statement, Statements, size, branched, forked, sizes}
+use Rattle.recipe.specs.Blocks.{block_at, branches, inner, statement, statements, effects, forking}
+use Rattle.recipe.specs.Tree.{Block, Blocks, none, Statement, Statements, size, branched, forked, sizes, block, foreach}
 use Rattle.strands.specs.declared.site.Site.{Site}
-use Rattle.recipe.specs.Cells.{at_number}
+use Rattle.recipe.specs.Cells.{at_number, unfilled}
 use Rattle.strands.specs.Strands.{each, strands_beside, strands_in, strands_of, strands_under}
 use Rattle.strands.proofs.Counting.{at_first, at_past, at_second, of_length, under_length}
 use Rattle.recipe.specs.declared.extent.Extent.{Extent}
@@ -17,19 +17,16 @@ use Rattle.recipe.specs.declared.outline.Outline.TheVariants.{Operation as Opera
 use Rattle.recipe.specs.declared.record.Fork.{Fork}
 use Rattle.recipe.specs.declared.record.Fork.TheVariants.{Cobegin, Foreach}
 use Rattle.recipe.specs.declared.head.Spot.TheVariants.{Statements as InBlock, Guarded}
-use Rattle.recipe.specs.Blocks.{effects, forking}
-use Rattle.recipe.specs.Extents.{capped, ending, extent, mapped as over, statement_extent}
-use Rattle.recipe.specs.Cells.{unfilled}
+use Rattle.recipe.specs.Records.{mapped as over, record_at}
+use Rattle.recipe.specs.Extents.{capped, ending, extent, statement_extent}
 use Rattle.recipe.specs.Kinds.{roomy}
 use Rattle.recipe.specs.Outlines.{outlined}
-use Rattle.recipe.specs.Records.{record_at}
-use Rattle.recipe.specs.Tree.{block, foreach}
-use Rattle.recipe.proofs.RingLaws.{branches_none, by_ok, inner_less, some_forks, was_err}
+use Rattle.recipe.proofs.RingLaws.{branches_none, inner_less, some_forks}
+use Rattle.recipe.proofs.Results.{by_ok, was_err, same_what}
 use Rattle.std.specs.Option.{option_map}
 use Rattle.strands.specs.Finding.{FoundInBlock, FoundInBranches, FoundInFork, FoundInStatement, FoundInStatements, FoundUnder}
 use Rattle.strands.specs.Located.{found_in, located, strand_at}
-use Rattle.recipe.proofs.Accepted.{same_what}
-use Rattle.strands.proofs.Parts.{block_parts, branches_further, cobegin_parts, foreach_parts, StatementParts, statement_parts, statement_read, statements_further, UnderParts, under_parts, under_read}
+use Rattle.recipe.proofs.Parts.{block_parts, branches_further, cobegin_parts, foreach_parts, StatementParts, statement_parts, statement_read, statements_further, UnderParts, under_parts, under_read}
 
 module _ {P R C : Type 0} (m : Meaning P R C) (file : List ℕ) (site : Site) (is : List ℕ) where
   -- what is left of a list of blocks holds the strand, under what is left of its number

@@ -1,4 +1,9 @@
+pub mod ChildLaws
+pub mod Childhood
 pub mod Counting
+pub mod Found
+pub mod Kin
 pub mod Left
-pub mod Parts
+pub mod Numbering
 pub mod Rows
+pub mod Standing

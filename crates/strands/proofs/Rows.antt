@@ -7,7 +7,7 @@ use Rattle.recipe.proofs.Once.{entry_is}
 use Rattle.strands.specs.Strands.{Strand, each, strands_of, strands_in, strands_under, strands_beside}
 
 -- an entry of two lists is one of the first or one of the second
-either : {X : Type 0} (xs ys : List X) (k : ℕ) (s : X) → at_number (xs ++ ys) k ≡ Some s → (at_number xs k ≡ Some s) ⊎ ((j : ℕ) × (k ≡ length xs + j) × (at_number ys j ≡ Some s))
+pub either : {X : Type 0} (xs ys : List X) (k : ℕ) (s : X) → at_number (xs ++ ys) k ≡ Some s → (at_number xs k ≡ Some s) ⊎ ((j : ℕ) × (k ≡ length xs + j) × (at_number ys j ≡ Some s))
 either [] ys k s h = inr (k, omega arith, h)
 either (x ∷ xs) ys zero s h = inl h
 either (x ∷ xs) ys (suc k) s h = go (either xs ys k s h)
@@ -20,7 +20,7 @@ row_first : {X : Type 0} (inside xs ys : List X) (k : ℕ) → InRow inside k xs
 row_first inside xs ys k (before, after, e, l) =
     (before, after ++ ys, ap (λ a. a ++ ys) e ∙ append_assoc before (inside ++ after) ys ∙ ap (λ a. before ++ a) (append_assoc inside after ys), l)
 
-row_second : {X : Type 0} (inside xs ys : List X) (k j : ℕ) → k ≡ length xs + j → InRow inside j ys → InRow inside k (xs ++ ys)
+pub row_second : {X : Type 0} (inside xs ys : List X) (k j : ℕ) → k ≡ length xs + j → InRow inside j ys → InRow inside k (xs ++ ys)
 row_second inside xs ys k j n (before, after, e, l) =
     (xs ++ before, after, ap (λ a. xs ++ a) e ∙ sym (append_assoc xs before (inside ++ after)), length-append xs before ∙ omega arith)
 

@@ -1,10 +1,12 @@
 // The strands of a recipe: from a strand's number to its block and its indices.
 #![tactic(auto)]
 
+mod children;
 mod finding;
 mod laws;
 mod site;
 
+pub use children::child;
 pub use finding::locate;
 pub use laws::strand_laws;
 pub use site::Site;

@@ -1,11 +1,14 @@
 -- The worked examples. Assumes nothing.
-use Rattle.std.specs.Prelude.{◌≡◌, ℕ, List, [], ◌∷◌, Ok}
+use Rattle.std.specs.Prelude.{◌≡◌, ℕ, List, [], ◌∷◌, Ok, Err, slice_set}
 use Rattle.sections.specs.SectionMeaning.{section_meaning}
 use Rattle.sections.specs.Worked.{WorkedSections}
 use Rattle.paths.specs.WorkedPaths.{WorkedPaths}
-use Rattle.recipe.specs.Extents.{mapped}
+use Rattle.recipe.specs.Records.{mapped}
 use Rattle.recipe.specs.Numbers.{numbered}
 use Rattle.recipe.specs.Recipes.{recipe_of}
+use Rattle.certifier.specs.declared.refusal.Refusal.TheVariants.{Interfering}
+use Rattle.certifier.specs.Faults.{location}
+use Rattle.certifier.specs.Verdicts.{verdict_of}
 
 -- three cells, 0, 1 and 2; a root that writes them all, and a foreach of three whose strands each store their index
 -- into the cell of that number
@@ -27,3 +30,7 @@ pub record Examples : Type 0 where
   pub sections : WorkedSections
   -- on sections the file reads; it lists 3 cells, its root begins at 30, and it has 4 strands
   pub file : mapped numbered (recipe_of section_meaning three_cells) ≡ Ok (record { cells = 3; from = 30; strands = 4 })
+  -- it is certified, with its 4 strands
+  pub certified : verdict_of section_meaning three_cells ≡ Ok 4
+  -- without the scale of the foreach's effect, strands 1 and 2 both write cell 0
+  pub refused : verdict_of section_meaning (slice_set three_cells 45 0) ≡ Err (Interfering (location 42 1) (location 42 2) 0)

@@ -4,7 +4,8 @@ use Rattle.recipe.specs.declared.extent.Extent.{Extent}
 use Rattle.recipe.specs.declared.outline.Outline.{Outline}
 use Rattle.recipe.specs.declared.outline.Outline.TheVariants.{Operation as OperationOutline, When as WhenOutline, Fork as ForkOutline, End as EndOutline, Other as OtherOutline}
 use Rattle.recipe.specs.Blocks.{block_at, inner}
-use Rattle.recipe.specs.Extents.{added, extent, mapped}
+use Rattle.recipe.specs.Records.{mapped}
+use Rattle.recipe.specs.Extents.{added, extent}
 use Rattle.recipe.specs.Tree.{branched, sizes}
 use Rattle.recipe.proofs.RingLaws as law
 use Rattle.recipe.proofs.RingLaws.{added_twice, as_statement}

@@ -1,6 +1,7 @@
 use Rattle.std.proofs.Common.{◌≡◌, ℕ, suc, ◌+◌, ◌-◌, ◌*◌, ◌<◌, ◌≤◌, length}
 use Rattle.recipe.specs.Blocks.{block_at, branches, inner, statements}
-use Rattle.recipe.specs.Extents.{added, extent, mapped}
+use Rattle.recipe.specs.Records.{mapped}
+use Rattle.recipe.specs.Extents.{added, extent}
 use Rattle.recipe.specs.Tree.{branched, sizes}
 use Rattle.recipe.proofs.blocks.+read_block_read_branches_read_fork_read_statement_read_statements_read_under.Given as goal
 

@@ -1,5 +1,6 @@
 use Rattle.std.proofs.Common.{sym, ap, ◌∙◌, arith}
-use Rattle.recipe.specs.Extents.{ending, mapped}
+use Rattle.recipe.specs.Records.{mapped}
+use Rattle.recipe.specs.Extents.{ending}
 use Rattle.recipe.proofs.BlockLaws as law
 use Rattle.recipe.proofs.blocks.read_effects.Goals as goal
 

@@ -1,6 +1,7 @@
 use Rattle.std.proofs.Common.{◌≡◌, ◌≤◌}
 use Rattle.recipe.specs.Blocks.{effects}
-use Rattle.recipe.specs.Extents.{ending, mapped}
+use Rattle.recipe.specs.Records.{mapped}
+use Rattle.recipe.specs.Extents.{ending}
 use Rattle.recipe.proofs.blocks.read_effects.Given as goal
 
 abbrev pub invariant-loop-depth : goal.invariant-loop-depth

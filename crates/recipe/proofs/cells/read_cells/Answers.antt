@@ -1,7 +1,7 @@
 use Rattle.std.proofs.Common.{◌≡◌, ℕ, suc, ◌+◌, ◌-◌, ◌<◌, ◌≤◌, List, [], ◌∷◌, ◌++◌, length, is_some, Ok, sym, refl, ap, ◌∙◌, subst, arith}
 use Rattle.theory.specs.Meaning.{Meaning}
 use Rattle.recipe.specs.Cells.{cells}
-use Rattle.recipe.specs.Extents.{mapped}
+use Rattle.recipe.specs.Records.{mapped}
 use Rattle.recipe.specs.Listed.{counted, listed}
 use Rattle.recipe.proofs.CellLaws as law
 use Rattle.recipe.proofs.cells.read_cells.Goals as goal

@@ -1,8 +1,8 @@
 use Rattle.std.proofs.Common.{Ok, sym, ap, ◌∙◌, subst}
 use Rattle.recipe.specs.declared.outline.Outline.{Outline}
-use Rattle.recipe.specs.Extents.{mapped}
+use Rattle.recipe.specs.Records.{mapped}
 use Rattle.recipe.specs.Outlines.{Roomy, outlined}
-use Rattle.recipe.proofs.RingLaws.{record_roomy}
+use Rattle.recipe.proofs.RecordLaws.{record_roomy}
 use Rattle.recipe.proofs.outline.read_outline.Goals as goal
 
 pub returns-in-Ok : goal.returns-in-Ok

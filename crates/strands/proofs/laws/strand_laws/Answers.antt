@@ -1,4 +1,4 @@
-use Rattle.strands.proofs.Counting.{laws}
+use Rattle.strands.proofs.Numbering.{laws}
 use Rattle.strands.proofs.laws.strand_laws.Goals as goal
 
 pub returns : goal.returns

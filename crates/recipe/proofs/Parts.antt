@@ -7,11 +7,11 @@ use Rattle.recipe.specs.declared.record.Fork.TheVariants.{Cobegin, Foreach}
 use Rattle.recipe.specs.Blocks.{Inner, block_at, branches, effects, forking, inner, onward, plain, statement, statement_of, statements, under}
 use Rattle.recipe.specs.declared.outline.Outline.{Outline}
 use Rattle.recipe.specs.declared.outline.Outline.TheVariants.{Operation as OperationOutline, When as WhenOutline, Fork as ForkOutline, End as EndOutline, Other as OtherOutline}
-use Rattle.recipe.specs.Extents.{mapped}
+use Rattle.recipe.specs.Records.{mapped, record_at}
 use Rattle.recipe.specs.Outlines.{outlined}
-use Rattle.recipe.specs.Records.{record_at}
-use Rattle.recipe.proofs.Accepted.{then_ok, same_end, same_what, value}
-use Rattle.recipe.specs.Tree.{Rec, cell, effect, operation, when, fork, end, Effect, Block, block, Statements, stop, next, Statement, simple, guarded, cobegin, foreach, Blocks, none, more, forked, sizes, branched}
+use Rattle.recipe.proofs.Results.{then_ok, same_end, same_what, value}
+use Rattle.recipe.specs.Rec.{Rec, cell, effect, operation, when, fork, end}
+use Rattle.recipe.specs.Tree.{Effect, Block, block, Statements, stop, next, Statement, simple, guarded, cobegin, foreach, Blocks, none, more, forked, sizes, branched}
 
 module _ {P R C : Type 0} (m : Meaning P R C) (file : List ℕ) where
   pub record BlockParts (forks depth at : ℕ) (b : Block P) (e : ℕ) : Type 0 where

@@ -1,6 +1,6 @@
 use Rattle.std.proofs.Common.{sym, ◌∙◌}
-use Rattle.recipe.proofs.BlockLaws as law
-use Rattle.recipe.proofs.blocks.begins.Goals as goal
+use Rattle.recipe.proofs.HeadLaws as law
+use Rattle.recipe.proofs.head.begins.Goals as goal
 
 pub returns-then-place-file : goal.returns-then-place-file
 returns-then-place-file c = law.begins_past _ _ _ c.if-place-file.true

@@ -1,0 +1,15 @@
+pub mod Collecting
+pub mod Families
+pub mod Gathered
+pub mod Held
+pub mod Heritage
+pub mod Judged
+pub mod Judging
+pub mod Kinship
+pub mod Lawful
+pub mod Listing
+pub mod Scanning
+pub mod Siblings
+pub mod Soundness
+pub mod Sources
+pub mod Stepping

@@ -1,0 +1,9 @@
+pub mod CertifierLaws
+pub mod Effects
+pub mod Families
+pub mod Faults
+pub mod Lists
+pub mod Refusals
+pub mod Sound
+pub mod Verdicts
+pub mod Walks
