@@ -5,7 +5,7 @@ usage: python3 tools/respell.py [--dry]     at the top of the repository
 
 It renames what the files of specs/ and proofs/ declare: definitions, lemmas, fields, constructors. Names that Rattle makes for a
 goal, a measure or an invariant (`returns-in_ok-x`, `loop-x-preserved`) keep their dashes, as do names of the library.
-Edits in must-fail/ are turned too. It stops where two names would fall together.
+Edits in must-fail/ are turned too. It tells with 'look:' where a new name stands in some file already, and turns it all the same.
 """
 
 import os

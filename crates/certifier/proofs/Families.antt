@@ -61,9 +61,9 @@ module _ {P R C : Type 0} (m : Meaning P R C) (recipe : Recipe) (count first : �
             let (end, reads) = strand_stands m kept recipe t h k s here in
             let small = strand_small m kept recipe t h k s here in
             let there = subst (λ (q : Site × List ℕ). block_at m recipe.file.now q.0.forks q.0.depth q.0.place ≡ Ok (s.body, end)) (sym found) reads in
-            let (child-is, count-is) = read s.body end there (omega arith) in
-            let stated_is : child_of child ≡ stated m (k, s) = child-is ∙ (λ i. (sym same i, filled_effects m (found i).1 (effects_in s.body))) in
-            let on : k + size s.body ≡ next = omega (arith, same, count-is) in (
+            let (child_is, count_is) = read s.body end there (omega arith) in
+            let stated_is : child_of child ≡ stated m (k, s) = child_is ∙ (λ i. (sym same i, filled_effects m (found i).1 (effects_in s.body))) in
+            let on : k + size s.body ≡ next = omega (arith, same, count_is) in (
               rest,
               (subst (λ (j : ℕ). Spaced j rest) (ap (λ (j : ℕ). j + size s.body) (sym same) ∙ on) spaced, later),
               omega arith,

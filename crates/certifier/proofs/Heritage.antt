@@ -22,9 +22,9 @@ module _ {P R C : Type 0} (m : Meaning P R C) (t : Tree P m.Point) where
   -- children of one fork have no interfering effects, so nothing is wrong
   siblings_clear : Sound m t → (p : ℕ) (a : Strand P) → Numbered m t p a → (cs : List (ℕ × Strand P)) → Among cs (families (p, a)) →
       (k l : ℕ) (c d : Strand P) → Among (k, c) cs → Among (l, d) cs → k < l → AllClear m c d
-  siblings_clear sound p a h cs fam k l c d at_c at-d o =
+  siblings_clear sound p a h cs fam k l c d at_c at_d o =
       let (i, e) = at_among cs (k, c) at_c in
-      let (j, f) = at_among cs (l, d) at-d in
+      let (j, f) = at_among cs (l, d) at_d in
       (sound p a h).children_apart cs fam i j k l c d (family_placed a (suc p) (statements_of a.body) cs fam i j k l c d e f o) e f
 
   pub sound_right : Sound m t → (r : Refusal m.Point) → Wrong m t r → ⊥

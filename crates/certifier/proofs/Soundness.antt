@@ -125,13 +125,13 @@ module _ {P R C : Type 0} (m : Meaning P R C) where
         where
           of_children : (i j : ℕ) (u v : ℕ × List (Effect R)) → i < j → Among r (pair_faults m u v) →
               (x : ℕ × Strand P) × (at_number cs i ≡ Some x) × (stated m x ≡ u) → (x : ℕ × Strand P) × (at_number cs j ≡ Some x) × (stated m x ≡ v) → Wrong m t r
-          of_children i j u v o told ((k, c), at_c, is-u) ((l, d), at-d, is-v) =
-              let ascends = family_ascends a (suc p) (statements_of a.body) cs fam i j k l c d o at_c at-d in
-              interfering_wrong k l c d (among_at cs i (k, c) at_c) (among_at cs j (l, d) at-d) ascends
-              (subst₂ (λ (u v : ℕ × List (Effect R)). Among r (pair_faults m u v)) (sym is-u) (sym is-v) told)
+          of_children i j u v o told ((k, c), at_c, is_u) ((l, d), at_d, is_v) =
+              let ascends = family_ascends a (suc p) (statements_of a.body) cs fam i j k l c d o at_c at_d in
+              interfering_wrong k l c d (among_at cs i (k, c) at_c) (among_at cs j (l, d) at_d) ascends
+              (subst₂ (λ (u v : ℕ × List (Effect R)). Among r (pair_faults m u v)) (sym is_u) (sym is_v) told)
 
           of_pair : Pair m (map (stated m) cs) r → Wrong m t r
-          of_pair (i, j, u, v, o, at-u, at-v, told) = of_children i j u v o told (at_map (stated m) cs i u at-u) (at_map (stated m) cs j v at-v)
+          of_pair (i, j, u, v, o, at_u, at_v, told) = of_children i j u v o told (at_map (stated m) cs i u at_u) (at_map (stated m) cs j v at_v)
 
       family_wrong : Among r (faults_among m t.cells p a cs) → Wrong m t r
       family_wrong f = either (among_either r (gather (child_faults m (effects_of m a)) (map (stated m) cs)) (pairs_faults m (map (stated m) cs)) f)
@@ -191,13 +191,13 @@ module _ {P R C : Type 0} (m : Meaning P R C) where
 
     strand_silent : (k : ℕ) (s : Strand P) → Silent (strand_faults m t.cells (k, s)) → SoundStrand m t k s
     strand_silent k s silent =
-        let of-source = λ (r : Refusal m.Point) (h : Source m t.cells k s (accesses m s) (families (k, s)) r). silent r (source_faults m t.cells k s (suc k) (statements_of s.body) r h) in
+        let of_source = λ (r : Refusal m.Point) (h : Source m t.cells k s (accesses m s) (families (k, s)) r). silent r (source_faults m t.cells k s (suc k) (statements_of s.body) r h) in
         let exceeding = λ (cs : List (ℕ × Strand P)). gather (child_faults m (effects_of m s)) (map (stated m) cs) in
         let interfering = λ (cs : List (ℕ × Strand P)). pairs_faults m (map (stated m) cs) in
         record {
-          accesses_sound = λ at mode x a. access_silent k s at mode x (λ r g. of-source r (inl ((at, mode, x), a, g)));
-          children_covered = λ cs f. child_silent s cs (λ r g. of-source r (inr (cs, f, among_first r (exceeding cs) (interfering cs) g)));
-          children_apart = λ cs f. pair_silent cs (λ r g. of-source r (inr (cs, f, among_second r (exceeding cs) (interfering cs) g)));
+          accesses_sound = λ at mode x a. access_silent k s at mode x (λ r g. of_source r (inl ((at, mode, x), a, g)));
+          children_covered = λ cs f. child_silent s cs (λ r g. of_source r (inr (cs, f, among_first r (exceeding cs) (interfering cs) g)));
+          children_apart = λ cs f. pair_silent cs (λ r g. of_source r (inr (cs, f, among_second r (exceeding cs) (interfering cs) g)));
         }
 
     pub silent_sound : Silent (recipe_faults m t) → Sound m t

@@ -53,7 +53,7 @@ module _ {P R C : Type 0} (m : Meaning P R C) (file : List ℕ) where
           (with_lies room depth at r after xs e is (record_belongs m file Effects 0 depth at r after is) (later after xs (are ∙ ap (λ (n : ℕ). Ok (xs, n)) ends)))
 
   -- the rest, where the blocks inside a fork lie
-  module _ (inside : Inner m file) (forks : ℕ) (inside-lie : (depth at : ℕ) (b : Block P) (e : ℕ) → inside depth at ≡ Ok (b, e) → BlockLies m file b (forks - 1) depth at e) where
+  module _ (inside : Inner m file) (forks : ℕ) (inside_lie : (depth at : ℕ) (b : Block P) (e : ℕ) → inside depth at ≡ Ok (b, e) → BlockLies m file b (forks - 1) depth at e) where
     pub branches_lie : (n depth at : ℕ) (bs : Blocks P) (e : ℕ) → branches m file inside n depth at ≡ Ok (bs, e) → BlocksLie m file bs (forks - 1) depth at e × (block_count bs ≡ n)
     unfolding branches
     branches_lie zero depth at bs e h =
@@ -64,7 +64,7 @@ module _ {P R C : Type 0} (m : Meaning P R C) (file : List ℕ) where
         let ends = same_end (more b xs) bs last e made in
         let (lie, count) = branches_lie n depth after xs e (are ∙ ap (λ (j : ℕ). Ok (xs, j)) ends) in
         subst (λ (ys : Blocks P). BlocksLie m file ys (forks - 1) depth at e × (block_count ys ≡ suc n)) (same_what (more b xs) bs last e made)
-        ((after, inside-lie depth at b after is, lie), ap suc count)
+        ((after, inside_lie depth at b after is, lie), ap suc count)
 
     fork_lies : (spot : Spot) (depth at : ℕ) (f : Fork) (behind : ℕ) (s : Statement P) (e : ℕ) → Stands m file spot forks depth at (fork f) behind → forking m file inside depth at f behind ≡ Ok (s, e) → StatementLies m file s spot forks depth at e
     fork_lies spot depth at (Cobegin n) behind s e h k =
@@ -74,7 +74,7 @@ module _ {P R C : Type 0} (m : Meaning P R C) (file : List ℕ) where
         (behind, refl, subst (λ (c : ℕ). Stands m file spot forks depth at (fork (Cobegin c)) behind) (sym count) h, lie)
     fork_lies spot depth at (Foreach n) behind s e h k =
         let (b, is, same) = foreach_parts m file inside depth at n behind s e k in
-        subst (λ (x : Statement P). StatementLies m file x spot forks depth at e) (sym same) (behind, refl, h, inside-lie (depth + 1) behind b e is)
+        subst (λ (x : Statement P). StatementLies m file x spot forks depth at e) (sym same) (behind, refl, h, inside_lie (depth + 1) behind b e is)
 
     -- the statement of a record other than a When
     simple_lies : (spot : Spot) (depth at : ℕ) (o : Operation P) (behind : ℕ) (s : Statement P) (e : ℕ) → Stands m file spot forks depth at (operation o) behind → simple at o ≡ s → behind ≡ e → StatementLies m file s spot forks depth at e

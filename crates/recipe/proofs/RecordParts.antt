@@ -93,7 +93,7 @@ module _ {P R C : Type 0} (m : Meaning P R C) (file : List ℕ) where
     single_ends : (owner depth at : ℕ) (p : P) (e : ℕ) → at ≤ length file → single_pattern m file owner depth at ≡ Ok (p, e) → Ends at e
     single_ends owner depth at p e l h =
         let ((q, n), is, only) = then_ok (pattern m file depth at) (lone m file owner) h in
-        let (yes-single, same) = met (m.single q) (Ok (q, n)) (NotSingle owner) (p, e) only in
+        let (yes_single, same) = met (m.single q) (Ok (q, n)) (NotSingle owner) (p, e) only in
         let s = same_end q p n e same in
         let (low, high) = pattern_ends depth at q n l is in
         (omega arith, omega arith)

@@ -86,11 +86,11 @@ pub kin : {P : Type 0} (b : Block P) (forks depth : ℕ) (is : List ℕ) (k : �
 kin b forks depth is k s h n st later behind nth c g =
     let first = k + 1 + n in
     let less = below (children st first) nth c g in
-    let (t, is-t) = at_some (child_strands st s.forks s.depth s.indices) nth (omega (arith, child_count st s.forks s.depth s.indices first)) in
-    let (low, found) = children_told st s.forks s.depth s.indices first nth c t g is-t in
+    let (t, is_t) = at_some (child_strands st s.forks s.depth s.indices) nth (omega (arith, child_count st s.forks s.depth s.indices first)) in
+    let (low, found) = children_told st s.forks s.depth s.indices first nth c t g is_t in
     let row =
     row_in_row (strands_under st s.forks s.depth s.indices) (strands_of s.body s.forks s.depth s.indices) (strands_of b forks depth is) (1 + n) k
     (body_row s.forks s.depth s.indices s.body n st later behind) (of_rows b forks depth is k s h)
     in
     let at : k + (1 + n) + (c - first) ≡ c = omega arith in
-    (t, is-t, ap (at_number (strands_of b forks depth is)) (sym at) ∙ row_entry (strands_under st s.forks s.depth s.indices) (strands_of b forks depth is) (k + (1 + n)) (c - first) t row found)
+    (t, is_t, ap (at_number (strands_of b forks depth is)) (sym at) ∙ row_entry (strands_under st s.forks s.depth s.indices) (strands_of b forks depth is) (k + (1 + n)) (c - first) t row found)

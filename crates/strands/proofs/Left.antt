@@ -90,9 +90,9 @@ module _ {P R C : Type 0} (m : Meaning P R C) (file : List ℕ) (site : Site) (i
       let at : q ≡ p.from = image ending (effects m file 16 site.depth site.place) q (p.es, p.from) u p.effects_are in
       let w = ap size p.whole in
       let n : number ≡ suc (number - 1) = omega arith in
-      let inner-found = found p.ss (suc (length file)) e
+      let inner_found = found p.ss (suc (length file)) e
       (ap (λ (i : ℕ). statements m file (inner m file site.forks) site.forks site.depth (suc (length file)) i) at ∙ p.statements_are) (omega arith) (omega arith) in
-      inner-found
+      inner_found
       ∙ ap (λ (i : ℕ). option_map located (at_number (strands_of (block site.place p.es p.ss) site.forks site.depth is) i)) (sym n)
       ∙ ap (λ (x : Block P). option_map located (at_number (strands_of x site.forks site.depth is) number)) (sym p.whole)
 

@@ -28,9 +28,9 @@ fn branch<T: Theory>(file: &[u8], site: Site, first: u16, nth: u8) -> Option<u16
 }
 
 /// The number of a child of a fork, counted from 0, whose first block stands at the site and whose
-/// first child has this number; none where it has no such child. Numbers are counted up to 1,025. Where
-/// the fork's blocks lie in the file and no number is above 1,024, it is the child's in the list of the
-/// fork's children.
+/// first child has this number; none where it has no such child. Each sum on the way is counted up to
+/// 1,025. Where the fork's blocks lie in the file, and the number behind all the fork's strands is at
+/// most 1,024, it is the child's in the list of the fork's children.
 pub fn child<T: Theory>(file: &[u8], fork: Fork, site: Site, first: u16, nth: u8) -> Option<u16>
     ensures is { result ≡ child_at T.Theory.meaning file.now site first nth fork }
     ensures among { ChildFound T.Theory.meaning file.now fork site first nth result }

@@ -1,4 +1,5 @@
-// The strands of a recipe: from a strand's number to its block and its indices.
+// The strands of a recipe: from a strand's number to its block and its indices, and from a fork to its
+// children.
 #![tactic(auto)]
 
 mod children;
