@@ -9,7 +9,7 @@ pub struct Extent {
     pub strands: u16,
 }
 
-/// A number of strands, counted that far.
+/// A number of strands, counted up to 1,025.
 pub fn counted(strands: u32) -> u16
     ensures { result ≡ capped strands }
 {
