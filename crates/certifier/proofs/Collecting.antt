@@ -1,5 +1,5 @@
 -- The effects of a block, one after another. Assumes nothing.
-use Rattle.std.proofs.Common.{◌≡◌, ℕ, Bool, true, false, List, [], ◌∷◌, ◌++◌, Some, None, Ok, Err, Result, sym, refl, ap, ◌∙◌, subst, append_assoc, append-nil, arith}
+use Rattle.std.proofs.Common.{◌≡◌, ℕ, false, List, [], ◌∷◌, ◌++◌, Some, None, Ok, Err, Result, sym, refl, ap, ◌∙◌, subst, append_assoc, append-nil}
 use Rattle.theory.specs.Meaning.{Meaning}
 use Rattle.recipe.specs.declared.fault.Fault.{Fault}
 use Rattle.recipe.specs.declared.head.Spot.TheVariants.{Effects}
@@ -22,9 +22,6 @@ module _ {P R C : Type 0} (m : Meaning P R C) (file : List ℕ) (is : List ℕ) 
   abbrev pub Collected : (place at : ℕ) → List (Effect R) → Type 0
   Collected place at got = (es : List (Stated P)) (from : ℕ) → EffectsLie m file es depth place from → begins file Effects from ≡ false → Rest at got es from
 
-  pub collect_none : (place : ℕ) → Collected place place []
-  collect_none place es from l n = (es, l, refl)
-
   -- what is found where an effect lies, and where none begins
   found_here : (x : Stated P) (xs : List (Stated P)) (at from : ℕ) (lie : EffectsLie m file (x ∷ xs) depth at from) →
       effect_found m is at (record_at m file Effects 0 depth at) ≡ Some (record { place = x.place; mode = x.mode; region = m.filled x.pattern is }, lie.0)
@@ -35,10 +32,7 @@ module _ {P R C : Type 0} (m : Meaning P R C) (file : List ℕ) (is : List ℕ) 
   none_begins at (Ok (r, e)) h n =
       let y = record_begins m file Effects 0 depth at r e h Effects in
       let z = record_belongs m file Effects 0 depth at r e h in
-      absurd (clash (n ∙ refl) (y ∙ z))
-    where
-      clash : {b : Bool} → b ≡ false → b ≡ true → ⊥
-      clash p q = let z : ◌≡◌ {A = ℕ} 0 1 = cc in omega arith
+      absurd cc
 
   pub collect_all : (place at : ℕ) (got : List (Effect R)) → Collected place at got → None ≡ effect_found m is at (record_at m file Effects 0 depth at) →
       (es : List (Stated P)) (from : ℕ) → EffectsLie m file es depth place from → begins file Effects from ≡ false → got ≡ filled_effects m is es
@@ -46,15 +40,16 @@ module _ {P R C : Type 0} (m : Meaning P R C) (file : List ℕ) (is : List ℕ) 
     where
       go : Rest at got es from → got ≡ filled_effects m is es
       go ([], lie, e) = sym (append-nil got) ∙ e
-      go (x ∷ xs, lie, e) = let two = h ∙ found_here x xs at from lie in absurd (let z : ◌≡◌ {A = ℕ} 0 1 = cc in omega arith)
+      go (x ∷ xs, lie, e) = let two = h ∙ found_here x xs at from lie in absurd cc
 
-  pub collect_more : (place at : ℕ) (got : List (Effect R)) → Collected place at got → (y : Effect R) (end : ℕ) → Some (y, end) ≡ effect_found m is at (record_at m file Effects 0 depth at) → Collected place end (got ++ (y ∷ []))
-  collect_more place at got inv y end h es from l k = go (inv es from l k)
+  pub collect_more : (place at : ℕ) (got : List (Effect R)) → Collected place at got → (y : Effect R) (end : ℕ) → Some (y, end) ≡ effect_found m is at (record_at m file Effects 0 depth at) →
+      (now : List (Effect R)) → now ≡ got ++ (y ∷ []) → Collected place end now
+  collect_more place at got inv y end h now pushed es from l k = subst (λ (r : List (Effect R)). Rest end r es from) (sym pushed) (go (inv es from l k))
     where
       go : Rest at got es from → Rest end (got ++ (y ∷ [])) es from
       go ([], lie, e) =
           let none = h ∙ none_begins at (record_at m file Effects 0 depth at) refl (subst (λ (n : ℕ). begins file Effects n ≡ false) (sym lie) k) in
-          absurd (let z : ◌≡◌ {A = ℕ} 0 1 = cc in omega arith)
+          absurd cc
       go (x ∷ xs, lie, e) =
           let pair = entry_is (y, end) (record { place = x.place; mode = x.mode; region = m.filled x.pattern is }, lie.0) (h ∙ found_here x xs at from lie) in (
             xs,

@@ -1,5 +1,5 @@
 -- The children of a fork, one after another. Assumes nothing.
-use Rattle.std.proofs.Common.{◌≡◌, ℕ, ◌+◌, ◌-◌, ◌<◌, ◌≤◌, min, List, [], ◌∷◌, ◌++◌, map, length, Some, None, Ok, sym, ap, ◌∙◌, subst, append_assoc, append-nil, arith}
+use Rattle.std.proofs.Common.{◌≡◌, ℕ, ◌+◌, ◌<◌, ◌≤◌, min, List, [], ◌∷◌, ◌++◌, map, length, Some, None, Ok, sym, ap, ◌∙◌, subst, append_assoc, append-nil, arith}
 use Rattle.theory.specs.Meaning.{Kept, Meaning}
 use Rattle.recipe.specs.declared.recipe.Recipe.{Recipe}
 use Rattle.recipe.specs.Blocks.{block_at}
@@ -7,7 +7,7 @@ use Rattle.recipe.specs.Numbers.{numbers}
 use Rattle.recipe.specs.Recipes.{Tree}
 use Rattle.recipe.specs.Tree.{size}
 use Rattle.recipe.proofs.Once.{entry_is}
-use Rattle.strands.specs.declared.site.Site.{Site}
+use Rattle.recipe.specs.declared.site.Site.{Site}
 use Rattle.strands.specs.Located.{located, strand_at}
 use Rattle.strands.specs.Strands.{Strand}
 use Rattle.certifier.specs.declared.effect.Effect.{Effect}
@@ -27,9 +27,6 @@ module _ {P R C : Type 0} (m : Meaning P R C) (recipe : Recipe) (count first : �
   abbrev pub Gathering : (left number : ℕ) → List (Child R) → Type 0
   Gathering left number got = (t : Tree P m.Point) → Holds m recipe t → (kids : List (ℕ × Strand P)) → Family m t first kids → length kids ≡ count → Waiting t kids left number got
 
-  pub gather_none : (got : List (Child R)) → got ≡ [] → Gathering count first got
-  gather_none got e t h kids family n = (kids, family, n, ap (λ (cs : List (Child R)). children_of cs ++ map (stated m) kids) e)
-
   pub gather_all : (left number : ℕ) (got : List (Child R)) → Gathering left number got → left ≤ 0 →
       (t : Tree P m.Point) → Holds m recipe t → (kids : List (ℕ × Strand P)) → Family m t first kids → length kids ≡ count → children_of got ≡ map (stated m) kids
   gather_all left number got inv z t h kids family n = go (inv t h kids family n)
@@ -48,13 +45,13 @@ module _ {P R C : Type 0} (m : Meaning P R C) (recipe : Recipe) (count first : �
         go ((k, s) ∷ rest, ((same, spaced), (here, later)), l, e) =
             let found = located_is m kept recipe t h k s here in
             let both = none ∙ ap (strand_at m recipe.file.now (numbers recipe).from) (sym same) ∙ found in
-            absurd (let z : ◌≡◌ {A = ℕ} 0 1 = cc in omega arith)
+            absurd cc
 
-    pub gather_more : (site : Site) (is : List ℕ) (child : Child R) (next : ℕ) → Some (site, is) ≡ strand_at m recipe.file.now (numbers recipe).from number →
-        ChildRead m recipe.file.now number site is child → next ≡ min (number + child.strands) 18446744073709551615 → Gathering (left - 1) next (got ++ (child ∷ []))
-    gather_more site is child next at read sum t h kids family n = go (inv t h kids family n)
+    pub gather_more : (site : Site) (is : List ℕ) (child : Child R) (next then : ℕ) → Some (site, is) ≡ strand_at m recipe.file.now (numbers recipe).from number →
+        ChildRead m recipe.file.now number site is child → next ≡ min (number + child.strands) 18446744073709551615 → then + 1 ≡ left → (now : List (Child R)) → now ≡ got ++ (child ∷ []) → Gathering then next now
+    gather_more site is child next then at read sum less now pushed t h kids family n = subst (Waiting t kids then next) (sym pushed) (go (inv t h kids family n))
       where
-        go : Waiting t kids left number got → Waiting t kids (left - 1) next (got ++ (child ∷ []))
+        go : Waiting t kids left number got → Waiting t kids then next (got ++ (child ∷ []))
         go ([], f, l, e) = absurd (omega arith)
         go ((k, s) ∷ rest, ((same, spaced), (here, later)), l, e) =
             let found = entry_is (site, is) (located s) (at ∙ ap (strand_at m recipe.file.now (numbers recipe).from) (sym same) ∙ located_is m kept recipe t h k s here) in

@@ -27,7 +27,7 @@ module _ {X : Type 0} where
 
   -- the entry at a number is an entry, and each entry has a number
   pub none_numbered : {A : Type 0} (x : X) → None ≡ Some x → A
-  none_numbered x e = let z : ◌≡◌ {A = ℕ} 0 1 = cc in absurd (omega arith)
+  none_numbered x e = absurd cc
 
   pub among_at : (xs : List X) (k : ℕ) (x : X) → at_number xs k ≡ Some x → Among x xs
   among_at [] k x h = none_numbered x h

@@ -1,5 +1,6 @@
 -- What the tests of effects say, in terms of cells. Assumes nothing.
-use Rattle.std.proofs.Common.{◌≡◌, ℕ, Bool, true, false, cond, ◌||◌, ◌⊎◌, List, [], ◌∷◌, is_some, Some, None, Option, refl, subst, inl, inr, arith}
+use Rattle.std.proofs.Common.{◌≡◌, ℕ, Bool, true, false, cond, ◌||◌, ◌⊎◌, List, [], ◌∷◌, is_some, Some, None, Option, refl, subst, inl, inr}
+use Rattle.std.specs.List.{list_any}
 use Rattle.theory.specs.Meaning.{Included, Kept, Meaning, Shared, Tells}
 use Rattle.theory.specs.Telling.{tells_as, tells_both}
 use Rattle.recipe.specs.declared.record.Mode.{Mode}
@@ -8,12 +9,12 @@ use Rattle.recipe.specs.Cells.{later, position}
 use Rattle.certifier.specs.declared.effect.Effect.{Effect}
 use Rattle.certifier.specs.Effects.{access_covered, admits, covered, covers, grants, interference, writes}
 use Rattle.certifier.specs.Faults.{unless}
-use Rattle.certifier.specs.Lists.{Among, some_of}
+use Rattle.certifier.specs.Lists.{Among}
 use Rattle.certifier.specs.Sound.{AccessCovered, Clear, Covered}
 
 tells_itself : (b : Bool) → Tells b (b ≡ true)
 tells_itself true = refl
-tells_itself false = λ e. let z : ◌≡◌ {A = ℕ} 0 1 = cc in absurd (omega arith)
+tells_itself false = λ e. absurd cc
 
 tells_either : (a b : Bool) (P Q : Type 0) → Tells a P → Tells b Q → Tells (a || b) (P ⊎ Q)
 tells_either true b P Q s t = inl s
@@ -26,18 +27,18 @@ tells_either false false P Q s t = neither
 
 -- a no denies the fact, and where nothing is told the fact holds
 pub told_no : (b : Bool) (P : Type 0) → Tells b P → b ≡ false → P → ⊥
-told_no true P t e = let z : ◌≡◌ {A = ℕ} 0 1 = cc in absurd (omega arith)
+told_no true P t e = absurd cc
 told_no false P t e = t
 
 pub held : {X : Type 0} (b : Bool) (P : Type 0) (v : X) → Tells b P → (Among v (unless b v) → ⊥) → P
 held true P v t silent = t
 held false P v t silent = absurd (silent (inl refl))
 
-tells_some : {X : Type 0} (test : X → Bool) (Q : X → Type 0) → ((x : X) → Tells (test x) (Q x)) → (xs : List X) → Tells (some_of test xs) ((x : X) × Among x xs × Q x)
+tells_some : {X : Type 0} (test : X → Bool) (Q : X → Type 0) → ((x : X) → Tells (test x) (Q x)) → (xs : List X) → Tells (list_any test xs) ((x : X) × Among x xs × Q x)
 tells_some test Q f [] = λ w. w.1
 tells_some {X} test Q f (x ∷ xs) =
-    tells_as (test x || some_of test xs) (Q x ⊎ ((y : X) × Among y xs × Q y)) ((y : X) × Among y (x ∷ xs) × Q y) into out
-    (tells_either (test x) (some_of test xs) (Q x) ((y : X) × Among y xs × Q y) (f x) (tells_some test Q f xs))
+    tells_as (test x || list_any test xs) (Q x ⊎ ((y : X) × Among y xs × Q y)) ((y : X) × Among y (x ∷ xs) × Q y) into out
+    (tells_either (test x) (list_any test xs) (Q x) ((y : X) × Among y xs × Q y) (f x) (tells_some test Q f xs))
   where
     into : Q x ⊎ ((y : X) × Among y xs × Q y) → (y : X) × Among y (x ∷ xs) × Q y
     into (inl q) = (x, inl refl, q)
@@ -63,7 +64,7 @@ grants_same Writes = refl
 pub grants_twice : (a b c : Mode) → grants a b ≡ true → grants b c ≡ true → grants a c ≡ true
 grants_twice Writes b c g h = refl
 grants_twice Reads Reads c g h = h
-grants_twice Reads Writes c g h = let z : ◌≡◌ {A = ℕ} 0 1 = cc in absurd (omega arith)
+grants_twice Reads Writes c g h = absurd cc
 
 pub writes_granted : (a b c d : Mode) → grants a c ≡ true → grants b d ≡ true → (writes c || writes d) ≡ true → (writes a || writes b) ≡ true
 writes_granted Writes b c d g h w = refl
@@ -122,4 +123,4 @@ module _ {P R C : Type 0} (m : Meaning P R C) where
         go : (b : Bool) → (writes e.mode || writes f.mode) ≡ b → (o : Option m.Point) → Shared m e.region f.region o → Between e f (cond b o None)
         go true w None s = λ v. s
         go true w (Some x) s = (w, s.0, s.1)
-        go false w o s = λ v. let z : ◌≡◌ {A = ℕ} 0 1 = cc in absurd (omega arith)
+        go false w o s = λ v. absurd cc

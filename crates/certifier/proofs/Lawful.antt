@@ -1,5 +1,5 @@
 -- The laws of the certifier, together. Assumes nothing.
-use Rattle.std.proofs.Common.{◌≡◌, ℕ, List, [], ◌∷◌, Ok, Err, Result, sym, refl, ap, ◌∙◌, inl, arith}
+use Rattle.std.proofs.Common.{◌≡◌, ℕ, List, [], ◌∷◌, Ok, Err, Result, sym, refl, ap, ◌∙◌, inl}
 use Rattle.theory.specs.Meaning.{Kept, Meaning}
 use Rattle.recipe.specs.declared.fault.Fault.{Fault}
 use Rattle.recipe.specs.Recipes.{Tree, recipe_of}
@@ -24,14 +24,14 @@ module _ {X : Type 0} where
   -- certified where no fault is told, and only there; and what is refused is told
   certified : (faults : List (Refusal X)) (strands n : ℕ) → unless_refused strands (first faults) ≡ Ok n → ((r : Refusal X) → Among r faults → ⊥) × (n ≡ strands)
   certified [] strands n e = (λ r h. h, cc)
-  certified (r ∷ faults) strands n e = let z : ◌≡◌ {A = ℕ} 0 1 = cc in absurd (omega arith)
+  certified (r ∷ faults) strands n e = absurd cc
 
   certifies : (faults : List (Refusal X)) (strands : ℕ) → ((r : Refusal X) → Among r faults → ⊥) → unless_refused strands (first faults) ≡ Ok strands
   certifies [] strands silent = refl
   certifies (r ∷ faults) strands silent = absurd (silent r (inl refl))
 
   refused : (faults : List (Refusal X)) (strands : ℕ) (r : Refusal X) → unless_refused strands (first faults) ≡ Err r → Among r faults
-  refused [] strands r e = let z : ◌≡◌ {A = ℕ} 0 1 = cc in absurd (omega arith)
+  refused [] strands r e = absurd cc
   refused (s ∷ faults) strands r e = inl (sym (same_refusal s r e))
 
 module _ {P R C : Type 0} (m : Meaning P R C) where

@@ -60,7 +60,7 @@ module _ {P R C : Type 0} (m : Meaning P R C) (t : Tree P m.Point) where
 
 -- the strands of a statement are among those of its block
 pub behind_room : {P : Type 0} (all : Statements P) (k : ℕ) (st : Statement P) (later : Statements P) → Behind all k (next st later) → k + forked st ≤ sizes all
-behind_room (stop at) k st later (z, e) = absurd (let z : ◌≡◌ {A = ℕ} 0 1 = cc in omega arith)
+behind_room (stop at) k st later (z, e) = absurd cc
 behind_room (next s ss) k st later (inl (z, e)) =
     let same : st ≡ s = cc in let long = ap forked same in omega arith
 behind_room (next s ss) k st later (inr (j, z, b)) = let room = behind_room ss j st later b in omega arith

@@ -1,5 +1,5 @@
 -- The statements of a strand, one after another. Assumes nothing.
-use Rattle.std.proofs.Common.{◌≡◌, ℕ, suc, ◌+◌, min, List, Some, None, Ok, Err, Option, sym, refl, ap, ◌∙◌, subst, arith}
+use Rattle.std.proofs.Common.{◌≡◌, ℕ, suc, ◌+◌, min, List, Some, None, Ok, Option, Result, sym, refl, ap, ◌∙◌, subst, arith}
 use Rattle.theory.specs.Meaning.{Kept, Meaning}
 use Rattle.recipe.specs.declared.fault.Fault.{Fault}
 use Rattle.recipe.specs.declared.head.Spot.TheVariants.{Statements as InBlock}
@@ -11,11 +11,10 @@ use Rattle.recipe.specs.Extents.{capped, statement_extent}
 use Rattle.recipe.specs.Recipes.{Tree}
 use Rattle.recipe.specs.Tree.{Block, block, Statements, stop, next, Statement, forked, size, sizes}
 use Rattle.recipe.specs.WellFormed.{StatementLies, StatementsLie}
-use Rattle.recipe.proofs.Lying.{no_result}
 use Rattle.recipe.proofs.Once.{entry_is}
 use Rattle.recipe.proofs.Reading.{in_block_reads}
 use Rattle.strands.specs.Children.{Behind, first_child, statements_of}
-use Rattle.strands.specs.declared.site.Site.{Site}
+use Rattle.recipe.specs.declared.site.Site.{Site}
 use Rattle.strands.proofs.Kin.{behind_more, behind_none}
 use Rattle.certifier.specs.declared.effect.Effect.{Effect}
 use Rattle.certifier.specs.declared.refusal.Refusal.{Refusal}
@@ -66,62 +65,65 @@ module _ {P R C : Type 0} (m : Meaning P R C) (kept : Kept m) (recipe : Recipe) 
         statement m recipe.file.now (inner m recipe.file.now site.forks) site.forks site.depth at ≡ Ok (Some st, q)
     reads st q l = in_block_reads m recipe.file.now kept st site.forks site.depth at q l
 
-    pub walk_bad : (f : Fault) → Err f ≡ mapped statement_extent (statement m recipe.file.now (inner m recipe.file.now site.forks) site.forks site.depth at) → Judged None
-    walk_bad f h t holds b same numbered e lie = go (walked t holds b same numbered e lie)
-      where
-        go : Left b e at child → None ≡ first (strand_faults m cells (number, there site is b))
-        go (k, stop p, behind, l, n, faults) = no_result f (None, e) (h ∙ ap (mapped statement_extent) (ends e p l))
-        go (k, next st later, behind, (q, l, ls), n, faults) = no_result f (Some (capped (forked st)), q) (h ∙ ap (mapped statement_extent) (reads st q l))
+    module _ (file : List ℕ) (its : file ≡ recipe.file.now) where
+      abbrev Given : Result (Option ℕ × ℕ) Fault → Type 0
+      Given r = r ≡ mapped statement_extent (statement m file (inner m file site.forks) site.forks site.depth at)
 
-    pub walk_done : (end : ℕ) → Ok (None, end) ≡ mapped statement_extent (statement m recipe.file.now (inner m recipe.file.now site.forks) site.forks site.depth at) → Judged None
-    walk_done end h t holds b same numbered e lie = go (walked t holds b same numbered e lie)
-      where
-        go : Left b e at child → None ≡ first (strand_faults m cells (number, there site is b))
-        go (k, stop p, behind, l, n, faults) = faults
-        go (k, next st later, behind, (q, l, ls), n, faults) =
-            let z = same_what None (Some (capped (forked st))) end q (h ∙ ap (mapped statement_extent) (reads st q l)) in absurd (let z : ◌≡◌ {A = ℕ} 0 1 = cc in omega arith)
+      in_recipe : (r : Result (Option ℕ × ℕ) Fault) → Given r → r ≡ mapped statement_extent (statement m recipe.file.now (inner m recipe.file.now site.forks) site.forks site.depth at)
+      in_recipe r h = h ∙ ap (λ (f : List ℕ). mapped statement_extent (statement m f (inner m f site.forks) site.forks site.depth at)) its
 
-    module _ (strands end : ℕ) (h : Ok (Some strands, end) ≡ mapped statement_extent (statement m recipe.file.now (inner m recipe.file.now site.forks) site.forks site.depth at))
-        (r : Option (Refusal C)) (judged : StatementJudged m recipe cells own number site is (λ st. Unit {0}) InBlock at child r) where
-      -- the first statement that is left was looked at
-      looked : (t : Tree P m.Point) → Holds m recipe t → (b : Block P) → own ≡ filled_effects m is (effects_in b) → Numbered m t number (there site is b) → (k : ℕ) (st : Statement P) (later : Statements P) →
-          Behind (statements_of b) k (next st later) → (q : ℕ) → StatementLies m recipe.file.now st InBlock site.forks site.depth at q → child ≡ first_child number k →
-          refused m r ≡ first (statement_faults m cells number (there site is b) child st)
-      looked t holds b same numbered k st later behind q l n =
-          judged t holds b same st q tt l
-          (subst (λ (j : ℕ). Family m t j (numbered_children (there site is b) j st)) (sym n) (family_of m t number (there site is b) numbered k st later behind))
-
-      impossible : {X : Type 0} (e p : ℕ) → StatementsLie m recipe.file.now (stop p) site.forks site.depth at e → X
-      impossible e p l = let z = same_what (Some strands) None end e (h ∙ ap (mapped statement_extent) (ends e p l)) in absurd (let z : ◌≡◌ {A = ℕ} 0 1 = cc in omega arith)
-
-      pub walk_found : (v : Refusal C) → r ≡ Some v → Judged r
-      walk_found v some t holds b same numbered e lie = go (walked t holds b same numbered e lie)
+      -- no statement is read
+      pub walk_over : (r : Result (Option ℕ × ℕ) Fault) → Given r → ((strands end : ℕ) → r ≡ Ok (Some strands, end) → ⊥) → Judged None
+      walk_over r h other t holds b same numbered e lie = go (walked t holds b same numbered e lie)
         where
-          go : Left b e at child → refused m r ≡ first (strand_faults m cells (number, there site is b))
-          go (k, stop p, behind, l, n, faults) = impossible e p l
-          go (k, next st later, behind, (q, l, ls), n, faults) =
-              let here = looked t holds b same numbered k st later behind q l n in
-              ap (refused m) some ∙ sym (first_of_both (statement_faults m cells number (there site is b) child st) (statements_faults m cells number (there site is b) (child + forked st) later) _ (sym here ∙ ap (refused m) some)) ∙ faults
+          go : Left b e at child → None ≡ first (strand_faults m cells (number, there site is b))
+          go (k, stop p, behind, l, n, faults) = faults
+          go (k, next st later, behind, (q, l, ls), n, faults) = absurd (other (capped (forked st)) q (in_recipe r h ∙ ap (mapped statement_extent) (reads st q l)))
 
-      pub walk_more : r ≡ None → (next_child : ℕ) → next_child ≡ min (child + strands) 18446744073709551615 → Walked end next_child
-      walk_more none next_child sum t holds b same numbered e lie = go (walked t holds b same numbered e lie)
-        where
-          go : Left b e at child → Left b e end next_child
-          go (k, stop p, behind, l, n, faults) = impossible e p l
-          go (k, next st later, behind, (q, l, ls), n, faults) =
-              let here = looked t holds b same numbered k st later behind q l n in
-              let both = h ∙ ap (mapped statement_extent) (reads st q l) in
-              let count = entry_is strands (capped (forked st)) (same_what (Some strands) (Some (capped (forked st))) end q both) in
-              let last = same_end (Some strands) (Some (capped (forked st))) end q both in
-              let small = strand_small m kept recipe t holds number (there site is b) numbered in
-              let room = behind_room (statements_of b) k st later behind in
-              let on : child + forked st ≡ next_child = omega (arith, block_room b) in (
-                k + forked st,
-                later,
-                behind_more (statements_of b) k st later behind,
-                subst (λ (j : ℕ). StatementsLie m recipe.file.now later site.forks site.depth j e) (sym last) ls,
-                omega arith,
-                ap (λ (j : ℕ). first (statements_faults m cells number (there site is b) j later)) (sym on)
-                    ∙ sym (first_of_second (statement_faults m cells number (there site is b) child st) (statements_faults m cells number (there site is b) (child + forked st) later) (sym here ∙ ap (refused m) none))
-                    ∙ faults,
-              )
+      module _ (strands end : ℕ) (o : Option ℕ) (some : o ≡ Some strands) (given : Given (Ok (o, end)))
+          (r : Option (Refusal C)) (judged : StatementJudged m recipe cells own number site is (λ st. Unit {0}) InBlock at child r) where
+        h : Ok (Some strands, end) ≡ mapped statement_extent (statement m recipe.file.now (inner m recipe.file.now site.forks) site.forks site.depth at)
+        h = ap (λ (o : Option ℕ). Ok (o, end)) (sym some) ∙ in_recipe (Ok (o, end)) given
+
+        -- the first statement that is left was looked at
+        looked : (t : Tree P m.Point) → Holds m recipe t → (b : Block P) → own ≡ filled_effects m is (effects_in b) → Numbered m t number (there site is b) → (k : ℕ) (st : Statement P) (later : Statements P) →
+            Behind (statements_of b) k (next st later) → (q : ℕ) → StatementLies m recipe.file.now st InBlock site.forks site.depth at q → child ≡ first_child number k →
+            refused m r ≡ first (statement_faults m cells number (there site is b) child st)
+        looked t holds b same numbered k st later behind q l n =
+            judged t holds b same st q tt l
+            (subst (λ (j : ℕ). Family m t j (numbered_children (there site is b) j st)) (sym n) (family_of m t number (there site is b) numbered k st later behind))
+
+        impossible : {X : Type 0} (e p : ℕ) → StatementsLie m recipe.file.now (stop p) site.forks site.depth at e → X
+        impossible e p l = let z = same_what (Some strands) None end e (h ∙ ap (mapped statement_extent) (ends e p l)) in absurd cc
+
+        pub walk_found : (v : Refusal C) → r ≡ Some v → Judged (Some v)
+        walk_found v found t holds b same numbered e lie = go (walked t holds b same numbered e lie)
+          where
+            go : Left b e at child → refused m (Some v) ≡ first (strand_faults m cells (number, there site is b))
+            go (k, stop p, behind, l, n, faults) = impossible e p l
+            go (k, next st later, behind, (q, l, ls), n, faults) =
+                let here = looked t holds b same numbered k st later behind q l n in
+                sym (first_of_both (statement_faults m cells number (there site is b) child st) (statements_faults m cells number (there site is b) (child + forked st) later) _ (sym here ∙ ap (refused m) found)) ∙ faults
+
+        pub walk_more : r ≡ None → (next_child : ℕ) → next_child ≡ min (child + strands) 18446744073709551615 → Walked end next_child
+        walk_more none next_child sum t holds b same numbered e lie = go (walked t holds b same numbered e lie)
+          where
+            go : Left b e at child → Left b e end next_child
+            go (k, stop p, behind, l, n, faults) = impossible e p l
+            go (k, next st later, behind, (q, l, ls), n, faults) =
+                let here = looked t holds b same numbered k st later behind q l n in
+                let both = h ∙ ap (mapped statement_extent) (reads st q l) in
+                let count = entry_is strands (capped (forked st)) (same_what (Some strands) (Some (capped (forked st))) end q both) in
+                let last = same_end (Some strands) (Some (capped (forked st))) end q both in
+                let small = strand_small m kept recipe t holds number (there site is b) numbered in
+                let room = behind_room (statements_of b) k st later behind in
+                let on : child + forked st ≡ next_child = omega (arith, block_room b) in (
+                  k + forked st,
+                  later,
+                  behind_more (statements_of b) k st later behind,
+                  subst (λ (j : ℕ). StatementsLie m recipe.file.now later site.forks site.depth j e) (sym last) ls,
+                  omega arith,
+                  ap (λ (j : ℕ). first (statements_faults m cells number (there site is b) j later)) (sym on)
+                      ∙ sym (first_of_second (statement_faults m cells number (there site is b) child st) (statements_faults m cells number (there site is b) (child + forked st) later) (sym here ∙ ap (refused m) none))
+                      ∙ faults,
+                )

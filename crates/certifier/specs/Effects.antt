@@ -4,13 +4,13 @@
 -- grants       what an effect allows: Writes allows both to write and to read, Reads only to read
 -- covered      an effect that lies within a single effect which grants it; an access that such an effect has the cell of
 -- interfere    two effects that share a cell, at least one of which is Writes
+use Rattle.std.specs.List.{list_any}
 use Rattle.std.specs.Prelude.{ℕ, Bool, true, false, cond, ◌&&◌, ◌||◌, List, map, None, Option}
 use Rattle.theory.specs.Meaning.{Meaning}
 use Rattle.recipe.specs.declared.record.Mode.{Mode}
 use Rattle.recipe.specs.declared.record.Mode.TheVariants.{Reads, Writes}
 use Rattle.recipe.specs.Tree.{Effect as Stated}
 use Rattle.certifier.specs.declared.effect.Effect.{Effect}
-use Rattle.certifier.specs.Lists.{some_of}
 
 abbrev pub writes : Mode → Bool
 writes Reads = false
@@ -33,14 +33,14 @@ module _ {P R C : Type 0} (m : Meaning P R C) where
   covers by e = grants by.mode e.mode && m.within e.region by.region
 
   abbrev pub covered : List (Effect R) → Effect R → Bool
-  covered own e = some_of (λ by. covers by e) own
+  covered own e = list_any (λ by. covers by e) own
 
   -- the access to a cell by a Load, which reads, or by a Store, which writes
   abbrev pub admits : Effect R → Mode → m.Point → Bool
   admits by mode x = grants by.mode mode && m.has by.region x
 
   abbrev pub access_covered : List (Effect R) → Mode → m.Point → Bool
-  access_covered own mode x = some_of (λ by. admits by mode x) own
+  access_covered own mode x = list_any (λ by. admits by mode x) own
 
   -- a cell by which two effects interfere
   abbrev pub interference : Effect R → Effect R → Option m.Point

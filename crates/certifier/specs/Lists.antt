@@ -2,11 +2,10 @@
 --
 -- gather     what a function gives for each entry, one after another
 -- first      the first entry, where there is one
--- some_of    whether a test says yes to some entry
 -- from       the entries with their numbers, counted from a number on
 -- beside     two lists, entry by entry
 -- Among      an entry of a list
-use Rattle.std.specs.Prelude.{◌≡◌, ℕ, suc, Bool, false, ◌||◌, ◌⊎◌, List, [], ◌∷◌, ◌++◌, Some, None, Option}
+use Rattle.std.specs.Prelude.{◌≡◌, ℕ, suc, ◌⊎◌, List, [], ◌∷◌, ◌++◌, Some, None, Option}
 
 module _ {X : Type 0} where
   abbrev pub gather : {Y : Type 0} → (X → List Y) → List X → List Y
@@ -16,10 +15,6 @@ module _ {X : Type 0} where
   abbrev pub first : List X → Option X
   first [] = None
   first (x ∷ xs) = Some x
-
-  abbrev pub some_of : (X → Bool) → List X → Bool
-  some_of test [] = false
-  some_of test (x ∷ xs) = test x || some_of test xs
 
   abbrev pub from : ℕ → List X → List (ℕ × X)
   from n [] = []

@@ -20,7 +20,7 @@ use Rattle.recipe.specs.Recipes.{Tree, recipe_of}
 use Rattle.recipe.specs.Tree.{Effect as Stated, Block, Statement, simple, guarded, cobegin, foreach, size}
 use Rattle.recipe.specs.WellFormed.{EffectsLie, StatementLies, StatementsLie}
 use Rattle.strands.specs.Children.{statements_of}
-use Rattle.strands.specs.declared.site.Site.{Site}
+use Rattle.recipe.specs.declared.site.Site.{Site}
 use Rattle.strands.specs.Strands.{Strand}
 use Rattle.certifier.specs.declared.effect.Effect.{Effect}
 use Rattle.certifier.specs.declared.family.Child.{Child}
@@ -50,11 +50,6 @@ Bare (simple at o) = Unit {0}
 Bare (guarded at r s) = ⊥
 Bare (cobegin at bs) = Unit {0}
 Bare (foreach at n b) = Unit {0}
-
--- what holds of the value, where there is one
-abbrev pub when_some : {X : Type 0} → Option X → (X → Type 0) → Type 0
-when_some (Some x) Q = Q x
-when_some None Q = Unit {0}
 
 module _ {P R C : Type 0} (m : Meaning P R C) where
   -- the effect that was read at a place, filled, and its end

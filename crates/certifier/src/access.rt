@@ -22,17 +22,12 @@ pub(crate) fn read_listed<T: Theory>(
     let file = recipe.file();
     let mut cells = Vec::new(heap);
     let mut at = 0;
-    let mut left = recipe.cells();
-    while left > 0 {
-        match read_cell::<T>(file, at) {
-            Ok(found) => {
-                let (cell, end) = found;
-                cells.push(cell)?;
-                at = end;
-            }
-            Err(_) => return Ok(cells),
-        }
-        left -= 1;
+    for _ in 0..recipe.cells() {
+        let Ok((cell, end)) = read_cell::<T>(file, at) else {
+            return Ok(cells);
+        };
+        cells.push(cell)?;
+        at = end;
     }
     Ok(cells)
 }
@@ -41,12 +36,7 @@ pub(crate) fn read_listed<T: Theory>(
 fn is_listed<T: Theory>(cells: &[T::Cell], cell: &T::Cell) -> bool
     ensures { result ≡ is_some (position T.Theory.meaning (T.Theory.meaning.point cell.now) (map T.Theory.meaning.point cells.now)) }
 {
-    for other in cells {
-        if T::same(cell, other) {
-            return true;
-        }
-    }
-    false
+    cells.iter().any(|other| T::same(cell, other))
 }
 
 // The first fault of an access of this mode to the cell: it must be listed, and covered.

@@ -1,7 +1,9 @@
 ghost use Rattle.std.specs.Prelude.{◌≡◌};
 ghost use Rattle.theory.specs.Meaning.{pointed};
-ghost use Rattle.certifier.specs.Effects.{access_covered, admits, covered, covers, grants, interference};
+ghost use Rattle.certifier.specs.Effects.{access_covered, covered, grants, interference};
+ghost use Rattle.certifier.specs.Faults.{location};
 
+use crate::refusal::Location;
 use recipe::Mode;
 use theory::Theory;
 
@@ -13,28 +15,23 @@ pub struct Effect<R> {
     pub region: R,
 }
 
+impl<R> Effect<R> {
+    // Where its record stands, in the strand of this number.
+    pub(crate) fn at(&self, strand: usize) -> Location
+        ensures { result ≡ location self.now.place strand }
+    {
+        Location {
+            place: self.place,
+            strand,
+        }
+    }
+}
+
 // Whether an effect of the first mode allows what one of the second states.
 fn granted(by: Mode, asked: Mode) -> bool
     ensures { result ≡ grants by asked }
 {
-    match (by, asked) {
-        (Mode::Reads, Mode::Writes) => false,
-        _ => true,
-    }
-}
-
-// Whether one effect covers another.
-fn covers_effect<T: Theory>(by: &Effect<T::Region>, effect: &Effect<T::Region>) -> bool
-    ensures { result ≡ covers T.Theory.meaning by.now effect.now }
-{
-    granted(by.mode, effect.mode) && T::within(&effect.region, &by.region)
-}
-
-// Whether an effect covers an access of this mode to the cell.
-fn covers_access<T: Theory>(by: &Effect<T::Region>, mode: Mode, cell: &T::Cell) -> bool
-    ensures { result ≡ admits T.Theory.meaning by.now mode (T.Theory.meaning.point cell.now) }
-{
-    granted(by.mode, mode) && T::has(&by.region, cell)
+    asked <= by
 }
 
 // Whether one of the effects covers the effect.
@@ -44,12 +41,7 @@ pub(crate) fn effect_covered<T: Theory>(
 ) -> bool
     ensures { result ≡ covered T.Theory.meaning own.now effect.now }
 {
-    for by in own {
-        if covers_effect::<T>(by, effect) {
-            return true;
-        }
-    }
-    false
+    own.iter().any(|by| granted(by.mode, effect.mode) && T::within(&effect.region, &by.region))
 }
 
 // Whether one of the effects covers an access of this mode to the cell.
@@ -60,12 +52,8 @@ pub(crate) fn access_is_covered<T: Theory>(
 ) -> bool
     ensures { result ≡ access_covered T.Theory.meaning own.now mode (T.Theory.meaning.point cell.now) }
 {
-    for by in own {
-        if covers_access::<T>(by, mode, cell) {
-            return true;
-        }
-    }
-    false
+    own.iter()
+        .any(|by| granted(by.mode, mode) && T::has(&by.region, cell))
 }
 
 // A cell by which two effects interfere: both have it, and one of them writes.

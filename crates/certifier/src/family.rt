@@ -5,7 +5,7 @@ ghost use Rattle.certifier.specs.Lists.{first, gather};
 ghost use Rattle.certifier.specs.Refusals.{refused};
 
 use crate::effect::{Effect, effect_covered, interfere};
-use crate::refusal::{Location, Refusal};
+use crate::refusal::Refusal;
 use theory::Theory;
 
 // A child of a fork: its number, how many strands it and those inside it are, and its effects.
@@ -19,61 +19,44 @@ pub(crate) struct Child<R> {
 // The first effect of a child that none of its parent's covers.
 fn exceeding<T: Theory>(
     own: &[Effect<T::Region>],
-    number: usize,
-    effects: &[Effect<T::Region>],
+    child: &Child<T::Region>,
 ) -> Option<Refusal<T::Cell>>
-    ensures { refused T.Theory.meaning result ≡ first (child_faults T.Theory.meaning own.now (number, effects.now)) }
+    ensures { refused T.Theory.meaning result ≡ first (child_faults T.Theory.meaning own.now (child_of child.now)) }
 {
-    for effect in effects {
-        if !effect_covered::<T>(own, effect) {
-            return Some(Refusal::Exceeding(Location {
-                place: effect.place,
-                strand: number,
-            }));
+    child.effects.iter().find_map(|effect| {
+        if effect_covered::<T>(own, effect) {
+            None
+        } else {
+            Some(Refusal::Exceeding(effect.at(child.number)))
         }
-    }
-    None
+    })
 }
 
-// The first effect of another child that interferes with an effect of a child.
+// The first effect of another child that interferes with an effect of the child of this number.
 fn clash<T: Theory>(
     number: usize,
     effect: &Effect<T::Region>,
-    other: usize,
-    effects: &[Effect<T::Region>],
+    other: &Child<T::Region>,
 ) -> Option<Refusal<T::Cell>>
-    ensures { refused T.Theory.meaning result ≡ first (gather (overlaps T.Theory.meaning number other effect.now) effects.now) }
+    ensures { refused T.Theory.meaning result ≡ first (gather (overlaps T.Theory.meaning number other.now.number effect.now) (child_of other.now).1) }
 {
-    for theirs in effects {
-        if let Some(cell) = interfere::<T>(effect, theirs) {
-            let here = Location {
-                place: effect.place,
-                strand: number,
-            };
-            let there = Location {
-                place: theirs.place,
-                strand: other,
-            };
-            return Some(Refusal::Interfering(here, there, cell));
-        }
-    }
-    None
+    other.effects.iter().find_map(|theirs| {
+        let cell = interfere::<T>(effect, theirs)?;
+        Some(Refusal::Interfering(effect.at(number), theirs.at(other.number), cell))
+    })
 }
 
 // The first interference of two children.
 fn pair_clash<T: Theory>(
-    number: usize,
-    effects: &[Effect<T::Region>],
+    child: &Child<T::Region>,
     other: &Child<T::Region>,
 ) -> Option<Refusal<T::Cell>>
-    ensures { refused T.Theory.meaning result ≡ first (pair_faults T.Theory.meaning (number, effects.now) (child_of other.now)) }
+    ensures { refused T.Theory.meaning result ≡ first (pair_faults T.Theory.meaning (child_of child.now) (child_of other.now)) }
 {
-    for effect in effects {
-        if let Some(refusal) = clash::<T>(number, effect, other.number, &other.effects) {
-            return Some(refusal);
-        }
-    }
-    None
+    child
+        .effects
+        .iter()
+        .find_map(|effect| clash::<T>(child.number, effect, other))
 }
 
 // The first interference of a child with one of those after it.
@@ -83,24 +66,19 @@ fn clash_with_rest<T: Theory>(
 ) -> Option<Refusal<T::Cell>>
     ensures { refused T.Theory.meaning result ≡ first (gather (pair_faults T.Theory.meaning (child_of child.now)) (children_of rest.now)) }
 {
-    for other in rest {
-        if let Some(refusal) = pair_clash::<T>(child.number, &child.effects, other) {
-            return Some(refusal);
-        }
-    }
-    None
+    rest.iter().find_map(|other| pair_clash::<T>(child, other))
 }
 
 // The first interference of two of the children.
 fn clash_among<T: Theory>(children: &[Child<T::Region>]) -> Option<Refusal<T::Cell>>
     ensures { refused T.Theory.meaning result ≡ first (pairs_faults T.Theory.meaning (children_of children.now)) }
 {
-    match children {
-        [] => None,
-        [child, rest @ ..] => match clash_with_rest::<T>(child, rest) {
-            Some(refusal) => Some(refusal),
-            None => clash_among::<T>(rest),
-        },
+    let [child, rest @ ..] = children else {
+        return None;
+    };
+    match clash_with_rest::<T>(child, rest) {
+        None => clash_among::<T>(rest),
+        found => found,
     }
 }
 
@@ -111,12 +89,7 @@ fn child_exceeding<T: Theory>(
 ) -> Option<Refusal<T::Cell>>
     ensures { refused T.Theory.meaning result ≡ first (gather (child_faults T.Theory.meaning own.now) (children_of children.now)) }
 {
-    for child in children {
-        if let Some(refusal) = exceeding::<T>(own, child.number, &child.effects) {
-            return Some(refusal);
-        }
-    }
-    None
+    children.iter().find_map(|child| exceeding::<T>(own, child))
 }
 
 // The first fault among the children of a fork: an effect that is not covered, or an interference.
@@ -126,8 +99,5 @@ pub(crate) fn family_fault<T: Theory>(
 ) -> Option<Refusal<T::Cell>>
     ensures { refused T.Theory.meaning result ≡ first (family_faults T.Theory.meaning own.now (children_of children.now)) }
 {
-    match child_exceeding::<T>(own, children) {
-        Some(refusal) => Some(refusal),
-        None => clash_among::<T>(children),
-    }
+    child_exceeding::<T>(own, children).or_else(|| clash_among::<T>(children))
 }

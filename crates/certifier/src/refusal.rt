@@ -1,5 +1,5 @@
 /// A record of a strand.
-#[derive(Clone, Copy)]
+#[derive(Clone, Copy, Debug, PartialEq, Eq)]
 pub struct Location {
     pub place: usize,
     pub strand: usize,

@@ -1,57 +1,62 @@
-ghost use Rattle.std.specs.Prelude.{◌≡◌, ◌<◌, ◌≤◌, length, IfOk};
+ghost use Rattle.std.specs.Prelude.{◌≡◌, ◌<◌, ◌≤◌, length, IfOk, IfSome};
 ghost use Rattle.recipe.specs.declared.head.Spot.TheVariants.{Effects};
 ghost use Rattle.recipe.specs.Records.{record_at};
-ghost use Rattle.certifier.specs.Walks.{ChildRead, ChildrenRead, Counted, EffectsFound, effect_found, when_some};
+ghost use Rattle.certifier.specs.Walks.{ChildRead, ChildrenRead, Counted, EffectsFound, effect_found};
 
 use crate::effect::Effect;
 use crate::family::Child;
-use recipe::{Recipe, Spot, read_block, read_record};
+use recipe::{Recipe, Site, Spot, read_block, read_record};
 use std::alloc::{AllocError, Global};
-use strands::{Site, locate};
+use strands::locate;
 use theory::{Indices, Theory};
 
-// The effect at a place, filled with the indices, and its end; none where no effect stands there.
-fn read_effect<T: Theory>(
-    file: &[u8],
-    depth: u8,
-    indices: &Indices,
-    place: usize,
-) -> Option<(Effect<T::Region>, usize)>
-    ensures is { result ≡ effect_found T.Theory.meaning indices.now place (record_at T.Theory.meaning file.now Effects 0 depth place) }
-    ensures whole { when_some result (λ x. (place < x.1) × (x.1 ≤ length file.now)) }
-{
-    match read_record::<T>(file, Spot::Effects, 0, depth, place) {
-        Ok((entry, end)) => match entry.effect() {
-            Some((mode, pattern)) => {
-                let region = T::fill(pattern, indices);
-                Some((
-                    Effect {
-                        place,
-                        mode,
-                        region,
-                    },
-                    end,
-                ))
-            }
-            None => None,
-        },
-        Err(_) => None,
-    }
+// A strand: its number, where its block stands, and its indices.
+#[derive(Clone, Copy)]
+pub(crate) struct Instance {
+    pub(crate) number: usize,
+    pub(crate) site: Site,
+    pub(crate) indices: Indices,
 }
 
-// The effects of the block at a site, filled with the indices.
+// The effect at a place in a strand's block, filled with its indices, and its end; none where no effect
+// stands there.
+fn read_effect<T: Theory>(
+    file: &[u8],
+    strand: &Instance,
+    place: usize,
+) -> Option<(Effect<T::Region>, usize)>
+    ensures is { result ≡ effect_found T.Theory.meaning strand.now.indices place (record_at T.Theory.meaning file.now Effects 0 strand.now.site.depth place) }
+    ensures whole { IfSome result (λ x. (place < x.1) × (x.1 ≤ length file.now)) }
+{
+    let site = Site {
+        place,
+        forks: 0,
+        ..strand.site
+    };
+    let (entry, end) = read_record::<T>(file, Spot::Effects, site).ok()?;
+    let (mode, pattern) = entry.effect()?;
+    let region = T::fill(pattern, &strand.indices);
+    Some((
+        Effect {
+            place,
+            mode,
+            region,
+        },
+        end,
+    ))
+}
+
+// The effects of a strand's block, filled with its indices.
 pub(crate) fn read_filled<T: Theory>(
     file: &[u8],
-    site: Site,
-    indices: &Indices,
+    strand: &Instance,
     heap: Global,
 ) -> Result<Vec<Effect<T::Region>>, AllocError>
-    ensures { IfOk result (λ v. EffectsFound T.Theory.meaning file.now site indices.now v.items) }
+    ensures { IfOk result (λ v. EffectsFound T.Theory.meaning file.now strand.now.site strand.now.indices v.items) }
 {
     let mut filled = Vec::new(heap);
-    let mut at = site.place;
-    while let Some(found) = read_effect::<T>(file, site.depth, indices, at) {
-        let (effect, end) = found;
+    let mut at = strand.site.place;
+    while let Some((effect, end)) = read_effect::<T>(file, strand, at) {
         filled.push(effect)?;
         at = end;
     }
@@ -62,26 +67,21 @@ pub(crate) fn read_filled<T: Theory>(
 fn count_strands<T: Theory>(file: &[u8], site: Site) -> usize
     ensures { Counted T.Theory.meaning file.now site result }
 {
-    match read_block::<T>(file, site.forks, site.depth, site.place) {
-        Ok(extent) => extent.strands as usize,
-        Err(_) => 0,
-    }
+    read_block::<T>(file, site).map_or(0, |extent| extent.strands as usize)
 }
 
-// The child of a number, whose block stands at the site.
+// A strand as a child of a fork.
 fn read_child<T: Theory>(
     file: &[u8],
-    number: usize,
-    site: Site,
-    indices: &Indices,
+    strand: &Instance,
     heap: Global,
 ) -> Result<Child<T::Region>, AllocError>
-    ensures { IfOk result (ChildRead T.Theory.meaning file.now number site indices.now) }
+    ensures { IfOk result (ChildRead T.Theory.meaning file.now strand.now.number strand.now.site strand.now.indices) }
 {
-    let effects = read_filled::<T>(file, site, indices, heap)?;
-    let strands = count_strands::<T>(file, site);
+    let effects = read_filled::<T>(file, strand, heap)?;
+    let strands = count_strands::<T>(file, strand.site);
     Ok(Child {
-        number,
+        number: strand.number,
         strands,
         effects,
     })
@@ -97,19 +97,21 @@ pub(crate) fn read_children<T: Theory>(
 ) -> Result<Vec<Child<T::Region>>, AllocError>
     ensures { IfOk result (λ v. ChildrenRead T.Theory.meaning recipe.now count first v.items) }
 {
-    let file = recipe.file();
     let mut children = Vec::new(heap);
     let mut number = first;
-    let mut left = count;
-    while left > 0 {
-        let Some(strand) = locate::<T>(recipe, number) else {
+    for _ in 0..count {
+        let Some(found) = locate::<T>(recipe, number) else {
             return Ok(children);
         };
-        let (site, indices) = strand;
-        let child = read_child::<T>(file, number, site, &indices, heap)?;
+        let (site, indices) = found;
+        let strand = Instance {
+            number,
+            site,
+            indices,
+        };
+        let child = read_child::<T>(recipe.file(), &strand, heap)?;
         number = number.saturating_add(child.strands);
         children.push(child)?;
-        left -= 1;
     }
     Ok(children)
 }

@@ -1,54 +1,38 @@
 -- Euclid's rule ends in time, and finds the greatest common divisor. Assumes nothing.
-use Rattle.std.proofs.Common.{◌≡◌, ℕ, zero, suc, ◌%◌, ◌<◌, Bool, true, false, cond, eqb, sym, refl, subst, mod-lt, arith, eq-eqb, ne_eqb, eqb-true}
-use Prim.Native.Nat.{◌∣◌}
-use native.Mathlib.Nat.{dvd_refl, dvd-zero, dvd-mod_iff}
-use borrow.Author.Tests.{eqb-false}
-use Rattle.euclid.specs.Divisor.{reduced, euclid, Greatest}
+use Rattle.std.proofs.Common.{◌≡◌, ℕ, zero, suc, ◌%◌, ◌<◌, refl, arith, ne_eqb}
+use Rattle.std.specs.Int.{IsGcd}
+use Rattle.std.proofs.lemmas.Nat.Gcd.{IsGcd-from_zero, IsGcd-from_mod}
+use Rattle.euclid.specs.Divisor.{reduced, euclid}
 
-by : (a b x y : ℕ) (t : Bool) → eqb b 0 ≡ t → ((b ≡ 0 → ⊥) → x ≡ y) → cond t a x ≡ cond t a y
-by a b x y true e same = refl
-by a b x y false e same = same (eqb-false b 0 e)
+step : (n a b : ℕ) → reduced (suc n) a (suc b) ≡ reduced n (suc b) (a % suc b)
+unfolding reduced
+step n a b = rw (ne_eqb (suc b) 0 (λ e. omega arith))
 
 -- more than b times is enough
 enough : (n m a b : ℕ) → b < n → b < m → reduced n a b ≡ reduced m a b
 unfolding reduced
 enough zero m a b h k = absurd (omega arith)
 enough (suc n) zero a b h k = absurd (omega arith)
-enough (suc n) (suc m) a b h k =
-    by a b (reduced n b (a % b)) (reduced m b (a % b)) (eqb b 0) refl
-    (λ z. let p : 0 < b = omega arith in let l = mod-lt a p in enough n m b (a % b) (omega arith) (omega arith))
+enough (suc n) (suc m) a zero h k = refl
+enough (suc n) (suc m) a (suc b) h k = cc (step n a b, step m a b, enough n m (suc b) (a % suc b) (omega arith) (omega arith))
 
 -- the two lines of the rule
 pub at_zero : (a b : ℕ) → b ≡ 0 → a ≡ euclid a b
 unfolding reduced euclid
-at_zero a b e = rw (eq-eqb b 0 e)
+at_zero a zero e = refl
+at_zero a (suc b) e = absurd (omega arith)
 
 pub at_rest : (a b : ℕ) → (b ≡ 0 → ⊥) → euclid b (a % b) ≡ euclid a b
-unfolding reduced euclid
-at_rest a b n = let p : 0 < b = omega arith in let l = mod-lt a p in rw (ne_eqb b 0 n) (enough (suc (a % b)) b b (a % b) (omega arith) (omega arith))
+unfolding euclid
+at_rest a zero n = absurd (n refl)
+at_rest a (suc b) n = cc (step (suc b) a b, enough (suc (a % suc b)) (suc b) (suc b) (a % suc b) (omega arith) (omega arith))
 
--- each keeps the greatest common divisor
-pub zero_greatest : (a b : ℕ) → b ≡ 0 → Greatest a b a
-zero_greatest a b e = record { left = dvd_refl a; right = subst (λ (n : ℕ). a ∣ n) (sym e) (dvd-zero a); most = λ d p q. p }
-
-pub rest_greatest : (a b r : ℕ) → Greatest b (a % b) r → Greatest a b r
-rest_greatest a b r g = record {
-  left = (dvd-mod_iff r g.left).0 g.right;
-  right = g.left;
-  most = λ d p q. g.most d q ((dvd-mod_iff d q).1 p);
-}
-
-pick : (a b x : ℕ) (t : Bool) → eqb b 0 ≡ t → ((b ≡ 0 → ⊥) → Greatest b (a % b) x) → Greatest a b (cond t a x)
-pick a b x true e rest = zero_greatest a b (eqb-true b 0 e)
-pick a b x false e rest = rest_greatest a b x (rest (eqb-false b 0 e))
-
-divides : (n a b : ℕ) → b < n → Greatest a b (reduced n a b)
+divides : (n a b : ℕ) → b < n → IsGcd a b (reduced n a b)
 unfolding reduced
 divides zero a b h = absurd (omega arith)
-divides (suc n) a b h =
-    pick a b (reduced n b (a % b)) (eqb b 0) refl
-    (λ z. let p : 0 < b = omega arith in let l = mod-lt a p in divides n b (a % b) (omega arith))
+divides (suc n) a zero h = IsGcd-from_zero a 0 refl
+divides (suc n) a (suc b) h = rw (step n a b) (IsGcd-from_mod a (suc b) _ (divides n (suc b) (a % suc b) (omega arith)))
 
-pub euclid_greatest : (a b : ℕ) → Greatest a b (euclid a b)
+pub euclid_greatest : (a b : ℕ) → IsGcd a b (euclid a b)
 unfolding euclid
 euclid_greatest a b = divides (suc b) a b (omega arith)

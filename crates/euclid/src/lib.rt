@@ -2,15 +2,15 @@
 #![tactic(auto)]
 
 ghost use Rattle.std.specs.Prelude.{◌≡◌, ◌<◌, ◌≤◌};
-ghost use Rattle.std.specs.Int.{◌∣◌};
-ghost use Rattle.euclid.specs.Divisor.{Greatest, euclid};
+ghost use Rattle.std.specs.Int.{◌∣◌, IsGcd};
+ghost use Rattle.euclid.specs.Divisor.{euclid};
 ghost use Rattle.euclid.specs.Steps.{Fewest, Least};
 
 /// The greatest common divisor of two numbers: that of (a, b) is that of (b, a mod b), and that of
 /// (a, 0) is a.
 pub fn gcd(a: u64, b: u64) -> u64
     ensures rule { result ≡ euclid a b }
-    ensures greatest { Greatest a b result }
+    ensures greatest { IsGcd a b result }
 {
     if b == 0 { a } else { gcd(b, a % b) }
 }
@@ -41,13 +41,9 @@ pub fn least_steps(modulus: u16, step: u16, start: u64) -> Option<u64>
     ensures { Fewest modulus step start result }
 {
     if modulus == 0 {
-        return if start == 0 { Some(0) } else { None };
+        return (start == 0).then_some(0);
     }
     let modulus = modulus as u64;
     let step = step as u64;
-    if start % gcd(modulus, step) == 0 {
-        Some(steps_along(modulus, step, start))
-    } else {
-        None
-    }
+    (start % gcd(modulus, step) == 0).then(|| steps_along(modulus, step, start))
 }

@@ -1,7 +1,8 @@
 ghost use Rattle.std.specs.Prelude.{◌≡◌};
 ghost use Rattle.judge.specs.Judged.{judged, judged_named, read_by};
 
-use crate::judgement::{Judgement, Refusal};
+use crate::judgement::Judgement;
+use crate::refusal::Refusal;
 use crate::theories::TheoryName;
 use paths::Paths;
 use recipe::Recipe;
@@ -13,17 +14,20 @@ use theory::{Product, Theory};
 pub const LONGEST_INPUT: u64 = 16_386;
 
 // Judges a file under a theory.
-fn judge_by<T: Theory>(file: &[u8]) -> Judgement
+fn judge_by<T: Theory>(file: &[u8]) -> Result<Judgement, Refusal>
     ensures { result ≡ read_by T.Theory.meaning file.now }
 {
-    match Recipe::read::<T>(file) {
-        Ok(recipe) => Judgement::Read(recipe.cells(), recipe.strands()),
-        Err(fault) => Judgement::Refused(Refusal::Unread(fault)),
-    }
+    let recipe = Recipe::read::<T>(file)?;
+    Ok(Judgement {
+        cells: recipe.cells(),
+        strands: recipe.strands(),
+    })
 }
 
-// Judges a file under the theory of that name.
-fn judge_named(name: TheoryName, file: &[u8]) -> Judgement
+// Judges a file under the theory of that name. Each theory is a type, which no value can hold, so the
+// name picks it here.
+#[tactic(auto, unfolding(crate::specs::Judged::judged_named))]
+fn judge_named(name: TheoryName, file: &[u8]) -> Result<Judgement, Refusal>
     ensures { result ≡ judged_named name file.now }
 {
     match name {
@@ -35,14 +39,11 @@ fn judge_named(name: TheoryName, file: &[u8]) -> Judgement
 }
 
 /// Judges an input: a theory byte, then a file. A missing theory byte counts as 0.
-pub fn judge(input: &[u8]) -> Judgement
+pub fn judge(input: &[u8]) -> Result<Judgement, Refusal>
     ensures { result ≡ judged input.now }
 {
     let [byte, file @ ..] = input else {
-        return Judgement::Refused(Refusal::UnknownTheory);
+        return Err(Refusal::UnknownTheory);
     };
-    match TheoryName::from_byte(*byte) {
-        Some(name) => judge_named(name, file),
-        None => Judgement::Refused(Refusal::UnknownTheory),
-    }
+    judge_named(TheoryName::try_from(*byte)?, file)
 }

@@ -3,11 +3,13 @@
 
 mod input;
 mod judgement;
+mod refusal;
 mod theories;
 
 pub use input::{LONGEST_INPUT, judge};
-pub use judgement::{Judgement, Refusal};
-pub use theories::TheoryName;
+pub use judgement::Judgement;
+pub use refusal::Refusal;
+pub use theories::{TheoryName, UnknownTheory};
 
 #[cfg(test)]
 mod tests;

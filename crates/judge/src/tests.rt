@@ -11,7 +11,17 @@ const NO_KIND: &str = "refused 2 at 0 strand 0";
 
 const SPARE: &str = "refused 8 at 1 strand 0";
 
-// Whether this line is said of a theory byte and a file: an End, and as many zeros as make up the
+// This line is said of an input.
+fn says_of(rt: &impl Abort, heap: Global, input: &[u8], line: &str) -> Result<(), Fail> {
+    let said = match judge(input) {
+        Ok(judgement) => judgement.to_string(heap)?,
+        Err(refusal) => refusal.to_string(heap)?,
+    };
+    assert!(rt; said.as_str() == line);
+    Ok(())
+}
+
+// This line is said of a theory byte and a file: an End, and as many zeros as make up the
 // length.
 fn says(rt: &impl Abort, heap: Global, theory: u8, length: usize, line: &str) -> Result<(), Fail> {
     let mut input = vec![in heap; theory]?;
@@ -21,15 +31,13 @@ fn says(rt: &impl Abort, heap: Global, theory: u8, length: usize, line: &str) ->
     for _ in 1..length {
         input.push(0)?;
     }
-    let said = judge(&input).to_string(heap)?;
-    assert!(rt; said.as_str() == line);
-    Ok(())
+    says_of(rt, heap, &input, line)
 }
 
 #[test]
 fn theories_are_1_to_4(rt: HostRuntime) -> Result<(), Fail> {
     let heap = rt.alloc();
-    assert!(rt; judge(&[]).to_string(heap)?.as_str() == UNKNOWN);
+    says_of(&rt, heap, &[], UNKNOWN)?;
     for theory in [0, 5, 255] {
         says(&rt, heap, theory, 0, UNKNOWN)?;
         says(&rt, heap, theory, 16_385, UNKNOWN)?;

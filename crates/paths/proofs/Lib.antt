@@ -1,4 +1,3 @@
-pub mod FillSteps
 pub mod HeldLaws
 pub mod ReadHeld
 pub mod ReadSteps

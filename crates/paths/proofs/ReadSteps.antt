@@ -1,27 +1,38 @@
 -- One step of reading a path. Assumes nothing.
-use Rattle.std.proofs.Common.{◌≡◌, ℕ, zero, suc, ◌+◌, ◌-◌, ◌<◌, List, Ok, Err, Result, sym, ap, ◌∙◌, subst, arith}
+use Rattle.std.proofs.Common.{◌≡◌, ℕ, zero, suc, ◌-◌, ◌<◌, List, [], ◌∷◌, ◌++◌, length, Some, None, Ok, Err, Option, ap, length-append, arith}
+use Rattle.theory.specs.declared.fault.Flaw.TheVariants.{TooMany}
 use Rattle.theory.specs.declared.fault.PatternFault.{PatternFault}
-use Rattle.paths.specs.declared.pattern.Pattern.{Pattern}
 use Rattle.paths.specs.declared.pattern.Piece.{Piece}
-use Rattle.paths.specs.declared.record.Record.TheVariants.{End, Next}
-use Rattle.paths.specs.Reading.{added, after, blank, path_reads, read_on, record_at}
+use Rattle.paths.specs.Filling.{Pattern}
+use Rattle.paths.specs.Reading.{added, after, fault_at, path_reads, read_on, record_at}
+
+abbrev whole : List Piece → Pattern
+whole xs = record { items = xs }
 
 module _ (file : List ℕ) (depth : ℕ) (p : Pattern) (at : ℕ) where
   pub read_fault : (left : ℕ) (f : PatternFault) → Err f ≡ record_at file depth at → Err f ≡ read_on left file depth p at
   read_fault zero f e = ap (after p _) e
   read_fault (suc left) f e = ap (after p _) e
 
-  pub read_end : (left next : ℕ) → Ok (End, next) ≡ record_at file depth at → Ok (p, next) ≡ read_on left file depth p at
-  read_end zero next e = ap (after p _) e
-  read_end (suc left) next e = ap (after p _) e
+  pub read_end : (left next : ℕ) (r : Option Piece) → r ≡ None → Ok (r, next) ≡ record_at file depth at → Ok (p, next) ≡ read_on left file depth p at
+  read_end zero next r n e = ap (after p _) (rw n at e)
+  read_end (suc left) next r n e = ap (after p _) (rw n at e)
 
-  pub read_next : (x : Piece) (next : ℕ) (q : Pattern) (r : Result (Pattern × ℕ) PatternFault) → p.len < 12 → Ok (Next x, next) ≡ record_at file depth at → q ≡ added p x →
-      r ≡ read_on (12 - q.len) file depth q next → r ≡ read_on (12 - p.len) file depth p at
-  read_next x next q r h e f g =
-      let n : 12 - p.len ≡ suc (12 - (p.len + 1)) = omega arith in
-      subst (λ (left : ℕ). r ≡ read_on left file depth p at) (sym n)
-      (subst (λ (z : Pattern). r ≡ read_on (12 - z.len) file depth z next) f g ∙ ap (after p (λ y next. read_on (12 - (p.len + 1)) file depth (added p y) next)) e)
+  pub read_full : (left next : ℕ) (r : Option Piece) (x : Piece) → left ≡ 0 → r ≡ Some x → Ok (r, next) ≡ record_at file depth at → Err (fault_at TooMany at) ≡ read_on left file depth p at
+  read_full zero next r x z n e = ap (after p _) (rw n at e)
+  read_full (suc left) next r x z n e = absurd (omega arith)
 
-pub read_whole : (file : List ℕ) (at depth : ℕ) (p : Pattern) (r : Result (Pattern × ℕ) PatternFault) → p ≡ blank → r ≡ read_on (12 - p.len) file depth p at → r ≡ path_reads file at depth
+  pub read_next : (left next : ℕ) (r : Option Piece) (x : Piece) (q : Pattern) → left ≡ 12 - length p.items → length p.items < 12 → r ≡ Some x → Ok (r, next) ≡ record_at file depth at →
+      q.items ≡ p.items ++ x ∷ [] → read_on (12 - length q.items) file depth q next ≡ read_on left file depth p at
+  read_next zero next r x q l h n e f = absurd (omega arith)
+  read_next (suc left) next r x q l h n e f =
+      let m : 12 - length q.items ≡ left = omega (arith, ap length f, length-append p.items (x ∷ [])) in
+      let g : q ≡ added p x = ap whole f in
+      rw (m, g) (ap (after p _) (rw n at e))
+
+pub read_start : (file : List ℕ) (at depth : ℕ) (p : Pattern) → p.items ≡ [] → read_on (12 - length p.items) file depth p at ≡ path_reads file at depth
 unfolding path_reads
-read_whole file at depth p r e g = subst (λ (z : Pattern). r ≡ read_on (12 - z.len) file depth z at) e g
+read_start file at depth p e = ap (λ (xs : List Piece). read_on (12 - length xs) file depth (whole xs) at) e
+
+-- what the reading of a path stands on
+pub ruleset read_steps = (read_fault, read_end, read_full, read_next, read_start)

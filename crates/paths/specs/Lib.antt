@@ -1,4 +1,5 @@
 pub mod Filling
+pub mod Kinds
 pub mod PathLaws
 pub mod PathsMeaning
 pub mod Reading

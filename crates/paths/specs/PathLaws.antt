@@ -1,18 +1,17 @@
 -- What holds of the regions of paths besides the laws of every theory. Assumes nothing.
 --
--- held   as a program holds a region: an array of 12 elements, with numbers that fit
+-- held   as a program holds a region: at most 12 elements, with numbers that fit
 -- read   what a filling of a pattern gives that bytes read as
-use Rattle.std.specs.Prelude.{◌≡◌, ℕ, false, List, length, Ok}
+use Rattle.std.specs.Prelude.{◌≡◌, ℕ, ◌≤◌, false, List, length, Ok}
 use Rattle.theory.specs.Meaning.{Filling}
 use Rattle.theory.specs.Reading.{Bytes}
 use Rattle.rpl.specs.Inclusion.{FitCell, FitPath}
 use Rattle.rpl.specs.Sharing.{AtMost}
-use Rattle.paths.specs.declared.pattern.Pattern.{Pattern}
-use Rattle.paths.specs.declared.region.Region.{Region}
+use Rattle.paths.specs.Filling.{Pattern, Region}
 use Rattle.paths.specs.PathsMeaning.{paths_meaning}
 
 abbrev pub Held : Region → Type 0
-Held r = (length r.elements ≡ 12) × FitPath r.elements
+Held r = (length r.items ≤ 12) × FitPath r.items
 
 -- a cell of a that is not one of b, with numbers that fit
 abbrev pub Witness : Region → Region → Type 0

@@ -1,12 +1,12 @@
 -- Worked examples of paths. Assumes nothing.
 --
 -- A, B   two names
-use Rattle.std.specs.Prelude.{◌≡◌, ℕ, ◌-◌, List, [], ◌∷◌, ◌++◌, length, replicate, Some, None}
+use Rattle.std.specs.Prelude.{◌≡◌, ℕ, List, [], ◌∷◌, Some, None}
 use Rattle.rpl.specs.declared.element.Key.TheVariants.{Named}
 use Rattle.rpl.specs.declared.element.Part.TheVariants.{Name, Index, AnyIndex}
 use Rattle.rpl.specs.declared.element.Element.{Element}
 use Rattle.rpl.specs.declared.element.Element.TheVariants.{Star, One}
-use Rattle.paths.specs.declared.region.Region.{Region}
+use Rattle.paths.specs.Filling.{Region}
 use Rattle.paths.specs.PathsMeaning.{paths_meaning}
 
 abbrev pub A : Element
@@ -20,7 +20,7 @@ at i = One (Index i)
 
 -- the region of a path
 abbrev pub path : List Element → Region
-path es = record { elements = es ++ replicate (12 - length es) Star; len = length es }
+path es = record { items = es }
 
 pub record WorkedPaths : Type 0 where
   -- A:*:[1] and A:*:[2] share none

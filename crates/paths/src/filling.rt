@@ -1,4 +1,4 @@
-ghost use Rattle.std.specs.Prelude.{◌≡◌, map};
+ghost use Rattle.std.specs.Prelude.{◌≡◌};
 ghost use Rattle.paths.specs.Filling.{path_filled, piece_filled};
 
 use crate::pattern::{Pattern, Piece};
@@ -19,23 +19,13 @@ fn filled_piece(piece: &Piece, indices: &Indices) -> Element
     }
 }
 
-// The elements that the pieces give.
-fn filled_pieces(pieces: &[Piece; 12], indices: &Indices) -> [Element; 12]
-    ensures { result ≡ map (piece_filled indices.now) pieces.now }
-{
-    let mut elements = [Element::Star; 12];
-    for i in 0..12 {
-        elements[i] = filled_piece(&pieces[i], indices);
-    }
-    elements
-}
-
 // The region of the pattern at these indices.
 pub(crate) fn filled(pattern: &Pattern, indices: &Indices) -> Region
     ensures { result ≡ path_filled pattern.now indices.now }
 {
-    Region {
-        elements: filled_pieces(&pattern.pieces, indices),
-        len: pattern.len,
+    let mut region = Region::new();
+    for piece in pattern.as_slice() {
+        region.push(filled_piece(piece, indices));
     }
+    region
 }

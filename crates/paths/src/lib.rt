@@ -2,11 +2,11 @@
 #![tactic(auto)]
 
 mod filling;
+mod kind;
 mod laws;
 mod paths_theory;
 mod pattern;
 mod reading;
-mod record;
 mod region;
 
 pub use laws::{path_laws, worked_paths};

@@ -3,7 +3,7 @@ ghost use Rattle.paths.specs.PathsKept.{paths_kept};
 
 use crate::filling::filled;
 use crate::pattern::Pattern;
-use crate::reading::{no_element, read_rest};
+use crate::reading::read_pattern;
 use crate::region::Region;
 use rpl::Cell;
 use theory::{Indices, PatternFault, Theory};
@@ -23,7 +23,7 @@ impl Theory for Paths {
     ghost kept = { paths_kept };
 
     fn read(file: &[u8], place: usize, depth: u8) -> Result<(Pattern, usize), PatternFault> {
-        read_rest(file, place, depth, no_element())
+        read_pattern(file, place, depth)
     }
 
     fn fill(pattern: &Pattern, indices: &Indices) -> Region {
@@ -31,27 +31,27 @@ impl Theory for Paths {
     }
 
     fn same(a: &Cell, b: &Cell) -> bool {
-        rpl::same(a.keys(), b.keys())
+        rpl::same(a, b)
     }
 
     // Whether a pattern is single does not hang on the indices.
     fn single(pattern: &Pattern) -> bool {
-        rpl::single(filled(pattern, &[0, 0, 0]).elements())
+        rpl::single(&filled(pattern, &[0, 0, 0]))
     }
 
     fn only(pattern: &Pattern, indices: &Indices) -> Cell {
-        rpl::only(filled(pattern, indices).elements())
+        rpl::only(&filled(pattern, indices))
     }
 
     fn has(region: &Region, cell: &Cell) -> bool {
-        rpl::has(region.elements(), cell.keys())
+        rpl::has(region, cell)
     }
 
     fn within(a: &Region, b: &Region) -> bool {
-        rpl::within(a.elements(), b.elements())
+        rpl::within(a, b)
     }
 
     fn share(a: &Region, b: &Region) -> Option<Cell> {
-        rpl::share(a.elements(), b.elements())
+        rpl::share(a, b)
     }
 }

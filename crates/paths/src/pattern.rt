@@ -1,7 +1,8 @@
+use arrayvec::ArrayVec;
 use rpl::Element;
 
 /// An index that is filled in: scale × the index of its hole + offset.
-#[derive(Clone, Copy)]
+#[derive(Clone, Copy, Debug, PartialEq, Eq)]
 pub struct FilledIndex {
     pub hole: u8,
     pub scale: u8,
@@ -9,7 +10,7 @@ pub struct FilledIndex {
 }
 
 /// An element of a pattern.
-#[derive(Clone, Copy)]
+#[derive(Clone, Copy, Debug, PartialEq, Eq)]
 pub enum Piece {
     /// The same in every filling.
     Fixed(Element),
@@ -17,10 +18,18 @@ pub enum Piece {
     Filled(FilledIndex),
 }
 
-/// A path with holes, of at most 12 elements. They stand at the start of the array; a pattern that
-/// was read has stars behind them.
-#[derive(Clone, Copy)]
-pub struct Pattern {
-    pub pieces: [Piece; 12],
-    pub len: usize,
+/// What stands in the places of a pattern that hold no element yet.
+impl Default for Piece {
+    ghost use Rattle.std.specs.Prelude.{◌≡◌};
+    ghost use Rattle.rpl.specs.declared.element.Element.TheVariants.{Star};
+    ghost use Rattle.paths.specs.declared.pattern.Piece.TheVariants.{Fixed};
+
+    ghost is_default = { λ piece. piece ≡ Fixed Star };
+
+    fn default() -> Piece {
+        Piece::Fixed(Element::default())
+    }
 }
+
+/// A path with holes, of at most 12 elements.
+pub type Pattern = ArrayVec<Piece, 12>;

@@ -21,44 +21,33 @@ fn woven(name: u16, last: u32) -> [Element; 12] {
     ]
 }
 
+// The number of rounds in which the answer is yes.
+fn count<F: Fn(u32) -> bool>(answer: F) -> usize
+    requires { F.IsAlwaysCallable answer }
+{
+    (0..ROUNDS).filter(|round| answer(*round)).count()
+}
+
 // Paths that share a cell, and paths that differ in their last element alone.
-fn shared(last: u32) -> u32 {
-    let mut found: u32 = 0;
-    for i in 0..ROUNDS {
-        if share(&woven(1, i % 2), &woven(2, last)).is_some() {
-            found = found.wrapping_add(1);
-        }
-    }
-    found
+fn shared(last: u32) -> usize {
+    count(|round| share(&woven(1, round % 2), &woven(2, last)).is_some())
 }
 
 // Eleven stars and a name against twelve elements.
-fn included(last: Element) -> u32 {
+fn included(last: Element) -> usize {
     let stars = [
         STAR, STAR, STAR, STAR, STAR, STAR, STAR, STAR, STAR, STAR, STAR, A,
     ];
     let names = [A, A, A, A, A, A, A, A, A, A, A, last];
-    let mut found: u32 = 0;
-    for _ in 0..ROUNDS {
-        if within(&names, &stars) {
-            found = found.wrapping_add(1);
-        }
-    }
-    found
+    count(|_| within(&names, &stars))
 }
 
 // Six stars between names against a cell of 22 names.
-fn matched(last: Key) -> u32 {
+fn matched(last: Key) -> usize {
     let path = [STAR, A, STAR, A, STAR, A, STAR, A, STAR, A, STAR, B];
     let mut cell = [Key::Named(0); 22];
     cell[21] = last;
-    let mut found: u32 = 0;
-    for _ in 0..ROUNDS {
-        if has(&path, &cell) {
-            found = found.wrapping_add(1);
-        }
-    }
-    found
+    count(|_| has(&path, &cell))
 }
 
 fn main(rt: HostRuntime) -> Result<(), std::io::Error> {

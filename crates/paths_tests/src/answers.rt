@@ -36,13 +36,11 @@ fn meets(rt: &impl Abort, p: &[Element], q: &[Element]) -> Result<(), Fail> {
 
 fn shows(rt: &impl Abort, p: &[Element], q: &[Element]) -> Result<(), Fail> {
     assert!(rt; p.len() <= 12 && q.len() <= 12);
-    match share(p, q) {
-        Some(cell) => {
-            assert!(rt; has(p, cell.keys()) && has(q, cell.keys()));
-            Ok(())
-        },
-        None => Err(Fail::new("apart")),
-    }
+    let Some(cell) = share(p, q) else {
+        return Err(Fail::new("apart"));
+    };
+    assert!(rt; has(p, &cell) && has(q, &cell));
+    Ok(())
 }
 
 #[test]
@@ -52,13 +50,11 @@ fn worked_examples(rt: HostRuntime) -> Result<(), Fail> {
     apart(&rt, &[A, ANY], &[A, B]);
     apart(&rt, &[A, STAR, A], &[A]);
     meets(&rt, &[STAR, A], &[B, STAR])?;
-    match share(&[STAR, A], &[B, STAR]) {
-        Some(cell) => {
-            assert!(rt; rpl::same(cell.keys(), &[KEY_B, KEY_A]));
-            Ok(())
-        },
-        None => Err(Fail::new("apart")),
-    }
+    let Some(cell) = share(&[STAR, A], &[B, STAR]) else {
+        return Err(Fail::new("apart"));
+    };
+    assert!(rt; rpl::same(&cell, &[KEY_B, KEY_A]));
+    Ok(())
 }
 
 #[test]
@@ -133,13 +129,9 @@ fn longest_shown(rt: HostRuntime) -> Result<(), Fail> {
     front[11] = STAR;
     let mut back = [B; 12];
     back[0] = STAR;
-    match share(&front, &back) {
-        Some(cell) => {
-            assert!(rt;
-                cell.keys().len() == 22 && has(&front, cell.keys()) && has(&back, cell.keys())
-            );
-            Ok(())
-        },
-        None => Err(Fail::new("apart")),
-    }
+    let Some(cell) = share(&front, &back) else {
+        return Err(Fail::new("apart"));
+    };
+    assert!(rt; cell.len() == 22 && has(&front, &cell) && has(&back, &cell));
+    Ok(())
 }

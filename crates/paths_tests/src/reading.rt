@@ -2,28 +2,25 @@ use paths::Paths;
 use rpl::Key;
 use std::process::Abort;
 use std::test::Fail;
-use theory::Theory;
+use theory::{Theory, Told};
 
 // The pattern is read up to `end` and has so many elements.
 fn reads(rt: &impl Abort, file: &[u8], depth: u8, elements: usize, end: usize) -> Result<(), Fail> {
-    match Paths::read(file, 0, depth) {
-        Ok((pattern, stop)) => {
-            assert!(rt; pattern.len == elements && stop == end);
-            Ok(())
-        },
-        Err(_) => Err(Fail::new("refused")),
-    }
+    let Ok((pattern, stop)) = Paths::read(file, 0, depth) else {
+        return Err(Fail::new("refused"));
+    };
+    assert!(rt; pattern.len() == elements && stop == end);
+    Ok(())
 }
 
 // The pattern is refused with this number at this place.
 fn refuses(rt: &impl Abort, file: &[u8], depth: u8, number: u8, place: usize) -> Result<(), Fail> {
-    match Paths::read(file, 0, depth) {
-        Ok(_) => Err(Fail::new("read")),
-        Err(fault) => {
-            assert!(rt; fault.told().number == number && fault.told().place == place);
-            Ok(())
-        },
-    }
+    let Err(fault) = Paths::read(file, 0, depth) else {
+        return Err(Fail::new("read"));
+    };
+    let told = Told::from(fault);
+    assert!(rt; told.number == number && told.place == place);
+    Ok(())
 }
 
 // The pattern is single, and this is its cell at these indices.
@@ -34,25 +31,21 @@ fn names(
     indices: [u8; 3],
     cell: &[Key],
 ) -> Result<(), Fail> {
-    match Paths::read(file, 0, depth) {
-        Ok((pattern, _)) => {
-            assert!(rt; Paths::single(&pattern));
-            assert!(rt; rpl::same(Paths::only(&pattern, &indices).keys(), cell));
-            Ok(())
-        }
-        Err(_) => Err(Fail::new("refused")),
-    }
+    let Ok((pattern, _)) = Paths::read(file, 0, depth) else {
+        return Err(Fail::new("refused"));
+    };
+    assert!(rt; Paths::single(&pattern));
+    assert!(rt; rpl::same(&Paths::only(&pattern, &indices), cell));
+    Ok(())
 }
 
 // The pattern is not single.
 fn many(rt: &impl Abort, file: &[u8]) -> Result<(), Fail> {
-    match Paths::read(file, 0, 0) {
-        Ok((pattern, _)) => {
-            assert!(rt; !Paths::single(&pattern));
-            Ok(())
-        },
-        Err(_) => Err(Fail::new("refused")),
-    }
+    let Ok((pattern, _)) = Paths::read(file, 0, 0) else {
+        return Err(Fail::new("refused"));
+    };
+    assert!(rt; !Paths::single(&pattern));
+    Ok(())
 }
 
 #[test]
@@ -68,11 +61,7 @@ fn lengths(rt: HostRuntime) -> Result<(), Fail> {
 // Twelve elements, then a record of five bytes.
 fn thirteenth(record: [u8; 5]) -> [u8; 17] {
     let mut file = [0x44; 17];
-    file[12] = record[0];
-    file[13] = record[1];
-    file[14] = record[2];
-    file[15] = record[3];
-    file[16] = record[4];
+    file[12..].copy_from_slice(&record);
     file
 }
 

@@ -2,7 +2,7 @@ use paths::{Paths, Pattern, Region};
 use sections::{Section, SectionPattern, Sections};
 use std::process::Abort;
 use std::test::Fail;
-use theory::{Product, Theory};
+use theory::{Product, Theory, Told};
 
 type Strip = Product<Paths, Sections>;
 
@@ -55,7 +55,8 @@ fn refuses(rt: &impl Abort, file: &[u8], number: u8, place: usize) -> Result<(),
     match Strip::read(file, 0, 0) {
         Ok(_) => Err(Fail::new("a faulty product is read")),
         Err(fault) => {
-            assert!(rt; fault.told().number == number && fault.told().place == place);
+            let told = Told::from(fault);
+            assert!(rt; told.number == number && told.place == place);
             Ok(())
         },
     }

@@ -1,6 +1,6 @@
 use sections::{Section, Sections};
 use std::test::Fail;
-use theory::{Product, Theory};
+use theory::{Product, Theory, Told};
 
 type Grid = Product<Sections, Sections>;
 
@@ -45,8 +45,9 @@ fn a_fault_of_the_right_side_has_its_own_place(rt: HostRuntime) -> Result<(), Fa
     match Grid::read(&FILE, 0, 0) {
         Ok(_) => Err(Fail::new("a hole outside every foreach is read")),
         Err(fault) => {
-            assert_eq!(rt; fault.told().number, 4);
-            assert_eq!(rt; fault.told().place, 9);
+            let told = Told::from(fault);
+            assert_eq!(rt; told.number, 4);
+            assert_eq!(rt; told.place, 9);
             Ok(())
         }
     }

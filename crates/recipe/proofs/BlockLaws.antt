@@ -39,3 +39,5 @@ module _ {P R C : Type 0} (m : Meaning P R C) (file : List ℕ) (depth : ℕ) wh
   effects_more zero at r end e z h = absurd (z refl)
   effects_more (suc room) at r end e z h =
       let one : suc room - 1 ≡ room = omega arith in rw (e, h, one) (ending_then (effects m file room depth end) (with_effect m file at r))
+
+pub ruleset effects_read = (effects_stop, effects_full, effects_bad)

@@ -1,15 +1,14 @@
 -- Each way through the list of cells. Assumes nothing.
-use Rattle.std.proofs.Common.{◌≡◌, ℕ, zero, suc, ◌+◌, ◌-◌, ◌<◌, ◌≤◌, true, false, List, [], ◌∷◌, ◌++◌, length, is_some, Some, None, Ok, Err, Option, sym, refl, ap, ◌∙◌, subst, arith}
-use Rattle.theory.specs.declared.fault.Flaw.TheVariants.{Kind, TooMany}
+use Rattle.std.proofs.Common.{◌≡◌, ℕ, zero, suc, ◌+◌, ◌-◌, ◌<◌, ◌≤◌, true, false, List, [], ◌∷◌, ◌++◌, length, is_some, Some, None, Ok, Err, Option, Result, sym, refl, ap, ◌∙◌, subst, arith}
+use Rattle.std.specs.Result.{result_ok}
+use Rattle.theory.specs.declared.fault.Flaw.TheVariants.{TooMany}
 use Rattle.theory.specs.Meaning.{Meaning}
 use Rattle.recipe.specs.declared.fault.Fault.{Fault}
 use Rattle.recipe.specs.declared.fault.Fault.TheVariants.{Record, Repeated}
 use Rattle.recipe.specs.declared.head.Spot.TheVariants.{Cells}
-use Rattle.recipe.specs.Cells.{cell_at, cells, later, position, unfilled}
+use Rattle.recipe.specs.Cells.{cell_at, cells, later, position}
 use Rattle.recipe.specs.Heads.{begins}
-use Rattle.recipe.specs.Records.{record_at}
-use Rattle.recipe.specs.Listed.{listed}
-use Rattle.recipe.specs.Rec.{cell_pattern, Rec}
+use Rattle.recipe.specs.Listed.{listed, pointed_at}
 
 -- a position counted from further on
 abbrev pub shifted : ℕ → Option ℕ → Option ℕ
@@ -25,18 +24,6 @@ shifted_none None = refl
 shifted_none (Some n) = ap (λ i. Some i) (omega arith)
 
 module _ {P R C : Type 0} (m : Meaning P R C) (file : List ℕ) where
-  pub cell_bad : (at : ℕ) (f : Fault) → Err f ≡ record_at m file Cells 0 0 at → Err f ≡ cell_at m file at
-  unfolding cell_at
-  cell_bad at f e = rw (sym e)
-
-  pub cell_named : (at after : ℕ) (r : Rec P) (p : P) (x : m.Point) → Ok (r, after) ≡ record_at m file Cells 0 0 at → cell_pattern r ≡ Some p → x ≡ m.only p unfilled → Ok (x, after) ≡ cell_at m file at
-  unfolding cell_at
-  cell_named at after r p x e c o = rw (sym e, c, o)
-
-  pub cell_other : (at after : ℕ) (r : Rec P) → Ok (r, after) ≡ record_at m file Cells 0 0 at → cell_pattern r ≡ None → Err (Record Kind at) ≡ cell_at m file at
-  unfolding cell_at
-  cell_other at after r e c = rw (sym e, c)
-
   pub listed_end : (n at : ℕ) → n ≤ 0 → listed m file n at ≡ []
   unfolding listed
   listed_end zero at z = refl
@@ -46,6 +33,15 @@ module _ {P R C : Type 0} (m : Meaning P R C) (file : List ℕ) where
   unfolding listed
   listed_bad zero at f e = refl
   listed_bad (suc n) at f e = rw (sym e)
+
+  -- what a reading without its fault says
+  pub cell_got : (r : Result (C × ℕ) Fault) (y : C) (after at : ℕ) → Some (y, after) ≡ result_ok r → pointed_at m r ≡ cell_at m file at → Ok (m.point y, after) ≡ cell_at m file at
+  cell_got (Ok p) y after at h is = let same : p ≡ (y, after) = cc in subst (λ (q : C × ℕ). pointed_at m (Ok q) ≡ cell_at m file at) same is
+  cell_got (Err f) y after at h is = absurd cc
+
+  pub listed_none : (r : Result (C × ℕ) Fault) (n at : ℕ) → None ≡ result_ok r → pointed_at m r ≡ cell_at m file at → listed m file n at ≡ []
+  listed_none (Ok x) n at h is = absurd cc
+  listed_none (Err f) n at h is = listed_bad n at f is
 
   pub listed_more : (n at after : ℕ) (y : m.Point) → 0 < n → Ok (y, after) ≡ cell_at m file at → listed m file n at ≡ y ∷ listed m file (n - 1) after
   unfolding listed
@@ -118,3 +114,18 @@ module _ {P R C : Type 0} (m : Meaning P R C) (file : List ℕ) where
     unfolding cells
     cells_more zero at after x e z h s = absurd (omega arith)
     cells_more (suc room) at after x e z h s = let one : suc room - 1 ≡ room = omega arith in rw (e, sym h, s, one)
+
+  -- one more cell is listed, and is not among those before it
+  pub cells_on : (count at after : ℕ) (x : m.Point) → begins file Cells at ≡ true → count < 128 → Ok (x, after) ≡ cell_at m file at → is_some (position m x (listed m file count 0)) ≡ false → Walks count 0 at →
+      (cells m file (128 - (count + 1)) (listed m file (count + 1) 0) after ≡ cells m file (128 - count) (listed m file count 0) at) × Walks (count + 1) 0 after
+  cells_on count at after x e h c s w =
+      let one : suc count ≡ count + 1 = omega arith in
+      let less : 128 - count - 1 ≡ 128 - (count + 1) = omega arith in
+      subst (λ (k : ℕ). (cells m file (128 - (count + 1)) (listed m file k 0) after ≡ cells m file (128 - count) (listed m file count 0) at) × Walks k 0 after) one (
+        rw (walks_listed count 0 at after x w c, ← less) (sym (cells_more (listed m file count 0) (128 - count) at after x e (omega arith) c s)),
+        walks_on count 0 at after x w c,
+      )
+
+pub ruleset cell_found = (found_here, found_never, listed_none, listed_end, cell_got, shifted_none)
+
+pub ruleset cells_read = (cells_stop, cells_full, cells_bad, cells_repeated, walks_length, none_listed)

@@ -1,12 +1,10 @@
 pub mod Accepted
 pub mod BlockLaws
 pub mod CellLaws
-pub mod HeadLaws
 pub mod Lying
 pub mod Once
 pub mod Parts
 pub mod Reading
-pub mod RecipeLaws
 pub mod RecordLaws
 pub mod RecordParts
 pub mod Results

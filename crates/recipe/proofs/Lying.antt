@@ -17,7 +17,7 @@ use Rattle.recipe.specs.WellFormed.{BlockLies, BlocksLie, EffectsLie, Stands, St
 use Rattle.recipe.proofs.Parts.{cobegin_parts, foreach_parts}
 
 pub no_result : {A B : Type 0} (f : Fault) (a : A) → ◌≡◌ {A = Result A Fault} (Err f) (Ok a) → B
-no_result f a h = let z : ◌≡◌ {A = ℕ} 0 1 = cc in absurd (omega arith)
+no_result f a h = absurd cc
 
 module _ {P R C : Type 0} (m : Meaning P R C) (file : List ℕ) where
   -- effects

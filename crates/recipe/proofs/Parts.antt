@@ -9,7 +9,7 @@ use Rattle.recipe.specs.declared.outline.Outline.{Outline}
 use Rattle.recipe.specs.declared.outline.Outline.TheVariants.{Operation as OperationOutline, When as WhenOutline, Fork as ForkOutline, End as EndOutline, Other as OtherOutline}
 use Rattle.recipe.specs.Records.{mapped, record_at}
 use Rattle.recipe.specs.Outlines.{outlined}
-use Rattle.recipe.proofs.Results.{then_ok, same_end, same_what, value}
+use Rattle.recipe.proofs.Results.{then_ok, same_end, same_what, same_tree}
 use Rattle.recipe.specs.Rec.{Rec, cell, effect, operation, when, fork, end}
 use Rattle.recipe.specs.Tree.{Effect, Block, block, Statements, stop, next, Statement, simple, guarded, cobegin, foreach, Blocks, none, more, forked, sizes, branched}
 
@@ -64,7 +64,7 @@ module _ {P R C : Type 0} (m : Meaning P R C) (file : List ℕ) where
 
   statements_parts : (inside : Inner m file) (forks depth fuel at : ℕ) (ss : Statements P) (e : ℕ) → statements m file inside forks depth fuel at ≡ Ok (ss, e) → Split inside forks depth fuel at ss e
   unfolding statements
-  statements_parts inside forks depth zero at ss e h = let z : ◌≡◌ {A = ℕ} 0 1 = cc in absurd (omega arith)
+  statements_parts inside forks depth zero at ss e h = absurd cc
   statements_parts inside forks depth (suc fuel) at ss e h = let u = then_ok (statement m file inside forks depth at) _ h in split inside forks depth fuel at ss e u.0 u.1 u.2
 
   -- a number within a list of statements that was read leads on to a statement
@@ -135,8 +135,7 @@ module _ {P R C : Type 0} (m : Meaning P R C) (file : List ℕ) where
     under_of (end, q) h = no_result _ _ h
 
     outline_is : (x : Result (Rec P × ℕ) Fault) (a : Rec P × ℕ) (y : Outline × ℕ) → x ≡ Ok a → Ok y ≡ mapped outlined x → outlined a ≡ y
-    unfolding value
-    outline_is x a y h k = let z : Ok y ≡ mapped outlined (Ok a) = k ∙ ap (mapped outlined) h in sym (ap (value y) z)
+    outline_is x a y h k = sym (same_tree y (outlined a) (k ∙ ap (mapped outlined) h))
 
     pub under_parts : (y : Outline × ℕ) → under m file inside forks depth at ≡ Ok (s, e) → Ok y ≡ mapped outlined (record_at m file Guarded forks depth at) → UnderParts y
     unfolding under

@@ -1,5 +1,5 @@
 -- What a record that was read consists of, where it may stand, and where it ends. Assumes nothing.
-use Rattle.std.proofs.Common.{◌≡◌, ℕ, ◌+◌, ◌<◌, ◌≤◌, Bool, true, ltb, leb, List, length, Some, None, Ok, Err, Option, Result, sym, refl, ap, ◌∙◌, subst, arith, ltb-true, leb-true}
+use Rattle.std.proofs.Common.{◌≡◌, ℕ, ◌+◌, ◌<◌, ◌≤◌, Bool, true, ltb, leb, List, length, Some, None, Ok, Err, Option, Result, sym, refl, ap, ◌∙◌, subst, arith, ltb-true, leb-true, lt-ltb}
 use Rattle.theory.specs.declared.fault.Flaw.TheVariants.{Cut, Kind as KindFlaw, Limit, TooMany}
 use Rattle.theory.specs.declared.fault.PatternFault.{PatternFault}
 use Rattle.theory.specs.Meaning.{Inside, Kept, Meaning}
@@ -10,11 +10,11 @@ use Rattle.recipe.specs.declared.head.Spot.{Spot}
 use Rattle.recipe.specs.declared.kinds.Kind.{Kind}
 use Rattle.recipe.specs.declared.kinds.Kind.TheVariants.{Cell, Reads, Writes, Load, Store, Set, Add, Index, When, Less, Cobegin, Foreach, End}
 use Rattle.recipe.specs.declared.record.Fork.{Fork}
+use Rattle.recipe.specs.Extents.{EndsBehind}
 use Rattle.recipe.specs.Heads.{begins, head, whole}
 use Rattle.recipe.specs.Kinds.{allowed, body_of, has_room, in_block, in_cells, in_effects, in_limits, in_statement, kind_of, roomy}
 use Rattle.recipe.specs.Rec.{Rec, cell, effect, operation, when, fork, end}
 use Rattle.recipe.specs.Records.{body, in_pattern, lone, made_of, pattern, record_at, single_pattern, then}
-use Rattle.recipe.proofs.HeadLaws.{begins_some}
 use Rattle.recipe.proofs.RecordLaws.{record_roomy}
 use Rattle.recipe.proofs.Results.{met, same_end, same_tree, same_what, then_ok}
 
@@ -26,6 +26,11 @@ belongs spot (operation o) = in_statement spot
 belongs spot (when r) = in_block spot
 belongs spot (fork f) = in_statement spot
 belongs spot end = in_block spot
+
+-- whether a record begins where a kind stands
+begins_some : (file : List ℕ) (spot : Spot) (at : ℕ) → at < length file → (k : Kind) → kind_of (byte file at) ≡ Some k → allowed spot k ≡ begins file spot at
+unfolding begins
+begins_some file spot at h k e = rw (lt-ltb at (length file) h, e)
 
 -- the head
 module _ (file : List ℕ) (spot : Spot) (depth at : ℕ) where
@@ -41,7 +46,7 @@ module _ (file : List ℕ) (spot : Spot) (depth at : ℕ) where
       let (l, w) = met (ltb at (length file)) _ _ k h in go (ltb-true at (length file) l) (kind_of (byte file at)) refl w
     where
       go : at < length file → (o : Option Kind) → kind_of (byte file at) ≡ o → whole file spot depth at o ≡ Ok k → HeadParts k
-      go l None e w = let z : ◌≡◌ {A = ℕ} 0 1 = cc in absurd (omega arith)
+      go l None e w = absurd cc
       go l (Some j) e w =
           let (a, v) = met (allowed spot j) _ (Record KindFlaw at) k w in
           let (c, u) = met (leb (at + 1 + body_of j) (length file)) _ (Record Cut at) k v in
@@ -78,19 +83,15 @@ module _ {P R C : Type 0} (m : Meaning P R C) (file : List ℕ) where
     body_belongs Foreach h = belongs_as _ _ h
     body_belongs End h = belongs_as _ _ h
 
-  -- after its place and within the file
-  abbrev pub Ends : (at e : ℕ) → Type 0
-  Ends at e = (at < e) × (e ≤ length file)
-
   module _ (kept : Kept m) where
-    pattern_ends : (depth at : ℕ) (p : P) (e : ℕ) → at ≤ length file → pattern m file depth at ≡ Ok (p, e) → Ends at e
+    pattern_ends : (depth at : ℕ) (p : P) (e : ℕ) → at ≤ length file → pattern m file depth at ≡ Ok (p, e) → EndsBehind file at e
     pattern_ends depth at p e l h = go (m.reads file at depth) (kept.inside file at depth l) h
       where
-        go : (x : Result (P × ℕ) PatternFault) → Inside file at x → in_pattern x ≡ Ok (p, e) → Ends at e
+        go : (x : Result (P × ℕ) PatternFault) → Inside file at x → in_pattern x ≡ Ok (p, e) → EndsBehind file at e
         go (Ok (q, n)) i h = let s = same_end q p n e h in (omega arith, omega arith)
-        go (Err f) i h = let z : ◌≡◌ {A = ℕ} 0 1 = cc in absurd (omega arith)
+        go (Err f) i h = absurd cc
 
-    single_ends : (owner depth at : ℕ) (p : P) (e : ℕ) → at ≤ length file → single_pattern m file owner depth at ≡ Ok (p, e) → Ends at e
+    single_ends : (owner depth at : ℕ) (p : P) (e : ℕ) → at ≤ length file → single_pattern m file owner depth at ≡ Ok (p, e) → EndsBehind file at e
     single_ends owner depth at p e l h =
         let ((q, n), is, only) = then_ok (pattern m file depth at) (lone m file owner) h in
         let (yes_single, same) = met (m.single q) (Ok (q, n)) (NotSingle owner) (p, e) only in
@@ -99,13 +100,13 @@ module _ {P R C : Type 0} (m : Meaning P R C) (file : List ℕ) where
         (omega arith, omega arith)
 
     module _ (depth at : ℕ) (r : Rec P) (e : ℕ) where
-      owned : (make : P → Rec P) (n : ℕ) (x : Result (P × ℕ) Fault) → at < n → ((p : P) → x ≡ Ok (p, e) → Ends n e) → then x (made_of m file make) ≡ Ok (r, e) → Ends at e
+      owned : (make : P → Rec P) (n : ℕ) (x : Result (P × ℕ) Fault) → at < n → ((p : P) → x ≡ Ok (p, e) → EndsBehind file n e) → then x (made_of m file make) ≡ Ok (r, e) → EndsBehind file at e
       owned make n x l f h = let (p, is, same) = made_parts make x r e h in let (low, high) = f p is in (omega arith, high)
 
-      fixed : (made : Rec P) (n : ℕ) → Ends at n → ◌≡◌ {A = Result (Rec P × ℕ) Fault} (Ok (made, n)) (Ok (r, e)) → Ends at e
+      fixed : (made : Rec P) (n : ℕ) → EndsBehind file at n → ◌≡◌ {A = Result (Rec P × ℕ) Fault} (Ok (made, n)) (Ok (r, e)) → EndsBehind file at e
       fixed made n (low, high) h = let s = same_end made r n e h in (omega arith, omega arith)
 
-      body_ends : (k : Kind) → at + 1 + body_of k ≤ length file → body m file k depth at ≡ Ok (r, e) → Ends at e
+      body_ends : (k : Kind) → at + 1 + body_of k ≤ length file → body m file k depth at ≡ Ok (r, e) → EndsBehind file at e
       body_ends Cell l h = owned _ (at + 1) (single_pattern m file at depth (at + 1)) (omega arith) (λ p is. single_ends at depth (at + 1) p e (omega arith) is) h
       body_ends Reads l h = owned _ (at + 1) (pattern m file depth (at + 1)) (omega arith) (λ p is. pattern_ends depth (at + 1) p e (omega arith) is) h
       body_ends Writes l h = owned _ (at + 1) (pattern m file depth (at + 1)) (omega arith) (λ p is. pattern_ends depth (at + 1) p e (omega arith) is) h
@@ -139,7 +140,7 @@ module _ {P R C : Type 0} (m : Meaning P R C) (file : List ℕ) where
         sym (begins_some file other at parts.within k parts.known) ∙ sym (body_belongs depth at r e other k whole)
 
     -- it ends after its place and within the file
-    pub record_ends : Kept m → (at < e) × (e ≤ length file)
+    pub record_ends : Kept m → EndsBehind file at e
     record_ends kept = let (k, parts, whole) = record_parts in body_ends kept depth at r e k parts.uncut whole
 
   -- a fork that stands has room

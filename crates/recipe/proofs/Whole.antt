@@ -35,12 +35,12 @@ module _ {P R C : Type 0} (m : Meaning P R C) where
 
     found_at : (x : m.Point) (seen rest : List m.Point) (j : ℕ) → position m x seen ≡ Some j → FoundAt x seen rest j
     unfolding position FoundAt
-    found_at x [] rest j h = let z : ◌≡◌ {A = ℕ} 0 1 = cc in absurd (omega arith)
+    found_at x [] rest j h = absurd cc
     found_at x (y ∷ seen) rest j h = go (m.same x y) (kept.alike x y) (position m x seen) (found_at x seen rest) h
       where
         go : (b : Bool) → Tells b (x ≡ y) → (o : Option ℕ) → ((i : ℕ) → o ≡ Some i → FoundAt x seen rest i) → cond b (Some 0) (later o) ≡ Some j → FoundAt x (y ∷ seen) rest j
         go true t o f h = subst (FoundAt x (y ∷ seen) rest) (entry_is 0 j h) (ap (λ (z : m.Point). Some z) (sym t), omega arith)
-        go false t None f h = let z : ◌≡◌ {A = ℕ} 0 1 = cc in absurd (omega arith)
+        go false t None f h = absurd cc
         go false t (Some i) f h = let (is, low) = f i refl in subst (FoundAt x (y ∷ seen) rest) (entry_is (suc i) j h) (is, omega arith)
 
     unseen : (x : m.Point) (seen rest : List m.Point) → Distinct (seen ++ (x ∷ rest)) → is_some (position m x seen) ≡ false

@@ -1,7 +1,7 @@
 -- The list of cells at the head of a file, under a theory. Assumes nothing.
 use Rattle.std.specs.Prelude.{ℕ, zero, suc, cond, List, [], ◌∷◌, ◌++◌, is_some, Some, None, Ok, Err, Option, Result}
 use Rattle.theory.specs.declared.fault.Flaw.TheVariants.{Kind, TooMany}
-use Rattle.theory.specs.Meaning.{Meaning}
+use Rattle.theory.specs.Meaning.{Meaning, zeros}
 use Rattle.recipe.specs.declared.fault.Fault.{Fault}
 use Rattle.recipe.specs.declared.fault.Fault.TheVariants.{Record, Repeated}
 use Rattle.recipe.specs.declared.head.Spot.TheVariants.{Cells}
@@ -14,7 +14,7 @@ most_cells = 128
 
 -- no foreach encloses a Cell
 abbrev pub unfilled : List ℕ
-unfilled = 0 ∷ 0 ∷ 0 ∷ []
+unfilled = zeros
 
 abbrev pub later : Option ℕ → Option ℕ
 later None = None

@@ -1,7 +1,6 @@
 -- Where parts of a file end, and how many strands they have. Assumes nothing.
-use Rattle.std.specs.Prelude.{ℕ, ◌+◌, min, Some, None, Ok, Err, Option, Result}
+use Rattle.std.specs.Prelude.{ℕ, ◌+◌, ◌*◌, ◌<◌, ◌≤◌, min, List, length, Some, None, Option}
 use Rattle.recipe.specs.declared.extent.Extent.{Extent}
-use Rattle.recipe.specs.declared.fault.Fault.{Fault}
 use Rattle.recipe.specs.Tree.{Statement, forked}
 
 abbrev pub most_strands : ℕ
@@ -23,7 +22,18 @@ statement_extent (Some s, end) = (Some (capped (forked s)), end)
 abbrev pub ending : {X : Type 0} → X × ℕ → ℕ
 ending (x, end) = end
 
--- with so many strands before it
-abbrev pub added : ℕ → Result Extent Fault → Result Extent Fault
-added n (Ok x) = Ok (record { end = x.end; strands = capped (n + x.strands) })
-added n (Err f) = Err f
+-- a part and the next one, taken as one
+abbrev pub one_after : Extent → Extent → Extent
+one_after a b = record { end = b.end; strands = capped (a.strands + b.strands) }
+
+-- a part with its strands so many times
+abbrev pub repeated : ℕ → Extent → Extent
+repeated n x = record { end = x.end; strands = capped (n * x.strands) }
+
+-- what stands at a place ends behind it, within the file
+abbrev pub EndsBehind : List ℕ → (place end : ℕ) → Type 0
+EndsBehind file place end = (place < end) × (end ≤ length file)
+
+-- the same of what may be empty: it ends at the place or behind it, within the file where the place is
+abbrev pub EndsFrom : List ℕ → (place end : ℕ) → Type 0
+EndsFrom file place end = (place ≤ end) × (place ≤ length file → end ≤ length file)

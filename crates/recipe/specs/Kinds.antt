@@ -3,7 +3,7 @@
 -- kind      the first byte of a record
 -- body      the bytes after it; the kind alone fixes how many
 -- depth     the number of foreach that enclose a record
-use Rattle.std.specs.Prelude.{ℕ, ◌+◌, Bool, true, false, cond, ◌&&◌, List, [], ◌∷◌, Some, None, Option, ◌==◌, nat_le, nat_lt}
+use Rattle.std.specs.Prelude.{ℕ, ◌+◌, Bool, true, false, cond, ◌&&◌, List, [], ◌∷◌, ◌++◌, map, Some, None, Option, ◌==◌, nat_le, nat_lt}
 use Rattle.theory.specs.Meaning.{hole_count}
 use Rattle.theory.specs.Reading.{byte}
 use Rattle.recipe.specs.declared.head.Spot.{Spot}
@@ -13,22 +13,31 @@ use Rattle.recipe.specs.declared.record.Fork.{Fork}
 use Rattle.recipe.specs.declared.record.Fork.TheVariants.{Cobegin as CobeginFork, Foreach as ForeachFork}
 use Rattle.recipe.specs.declared.kinds.Kind.TheVariants.{Cell, Reads, Writes, Load, Store, Set, Add, Index, When, Less, Cobegin, Foreach, End}
 
--- each kind and the length of its body
-abbrev pub kinds : List (ℕ × ℕ)
-kinds =
-    (0x01, 0) ∷  -- Cell
-    (0x10, 0) ∷  -- Reads
-    (0x11, 0) ∷  -- Writes
-    (0x20, 1) ∷  -- Load: register
-    (0x21, 1) ∷  -- Store: register
-    (0x22, 5) ∷  -- Set: register, value of four bytes
-    (0x23, 2) ∷  -- Add: target, source
-    (0x24, 2) ∷  -- Index: register, hole
-    (0x25, 1) ∷  -- When: register
-    (0x26, 3) ∷  -- Less: target, left, right
-    (0x30, 1) ∷  -- Cobegin: branches
-    (0x31, 1) ∷  -- Foreach: count
-    (0x3F, 0) ∷  -- End
+-- the kinds outside patterns
+abbrev pub named : List (ℕ × Kind)
+named =
+    (0x01, Cell) ∷ (0x10, Reads) ∷ (0x11, Writes) ∷ (0x20, Load) ∷ (0x21, Store) ∷ (0x22, Set) ∷ (0x23, Add) ∷
+    (0x24, Index) ∷ (0x25, When) ∷ (0x26, Less) ∷ (0x30, Cobegin) ∷ (0x31, Foreach) ∷ (0x3F, End) ∷ []
+
+-- the length of a body by its kind
+abbrev pub body_of : Kind → ℕ
+body_of Cell = 0
+body_of Reads = 0
+body_of Writes = 0
+body_of Load = 1  -- register
+body_of Store = 1  -- register
+body_of Set = 5  -- register, value of four bytes
+body_of Add = 2  -- target, source
+body_of Index = 2  -- register, hole
+body_of When = 1  -- register
+body_of Less = 3  -- target, left, right
+body_of Cobegin = 1  -- branches
+body_of Foreach = 1  -- count
+body_of End = 0
+
+-- the kinds inside patterns, each with the length of its body
+abbrev pub elements : List (ℕ × ℕ)
+elements =
     (0x40, 0) ∷  -- end of a path
     (0x41, 2) ∷  -- name
     (0x42, 4) ∷  -- index
@@ -38,6 +47,10 @@ kinds =
     (0x48, 8) ∷  -- section: hole, scale, offset, step and count of two bytes each
     []
 
+-- each kind and the length of its body
+abbrev pub kinds : List (ℕ × ℕ)
+kinds = map (λ (byte, kind). (byte, body_of kind)) named ++ elements
+
 abbrev pub looked_up : List (ℕ × ℕ) → ℕ → ℕ
 looked_up [] kind = 0
 looked_up ((k, length) ∷ rest) kind = cond (kind == k) length (looked_up rest kind)
@@ -46,34 +59,12 @@ looked_up ((k, length) ∷ rest) kind = cond (kind == k) length (looked_up rest 
 unfoldable pub body_length : ℕ → ℕ
 body_length kind = looked_up kinds kind
 
--- the kinds outside patterns
-abbrev pub named : List (ℕ × Kind)
-named =
-    (0x01, Cell) ∷ (0x10, Reads) ∷ (0x11, Writes) ∷ (0x20, Load) ∷ (0x21, Store) ∷ (0x22, Set) ∷ (0x23, Add) ∷
-    (0x24, Index) ∷ (0x25, When) ∷ (0x26, Less) ∷ (0x30, Cobegin) ∷ (0x31, Foreach) ∷ (0x3F, End) ∷ []
-
 abbrev pub kind_in : List (ℕ × Kind) → ℕ → Option Kind
 kind_in [] b = None
 kind_in ((byte, kind) ∷ rest) b = cond (b == byte) (Some kind) (kind_in rest b)
 
 unfoldable pub kind_of : ℕ → Option Kind
 kind_of b = kind_in named b
-
--- the length of a body by its kind
-abbrev pub body_of : Kind → ℕ
-body_of Cell = 0
-body_of Reads = 0
-body_of Writes = 0
-body_of Load = 1
-body_of Store = 1
-body_of Set = 5
-body_of Add = 2
-body_of Index = 2
-body_of When = 1
-body_of Less = 3
-body_of Cobegin = 1
-body_of Foreach = 1
-body_of End = 0
 
 -- where a kind may stand: a Cell in the cell list, an effect among effects, a statement in a block or under a When;
 -- a When and an End in a block only

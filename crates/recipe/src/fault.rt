@@ -1,10 +1,10 @@
 ghost use Rattle.std.specs.Prelude.{◌≡◌};
-ghost use Rattle.recipe.specs.Fault.{fault_told, reader_told};
+ghost use Rattle.recipe.specs.Fault.{reader_told};
 
 use theory::{Flaw, Layer, PatternFault, Told};
 
 /// Why a file is no recipe.
-#[derive(Clone, Copy)]
+#[derive(Clone, Copy, Debug, PartialEq, Eq)]
 pub enum Fault {
     /// The file is longer than 16,384 bytes.
     TooLong,
@@ -34,18 +34,33 @@ fn reader_told(number: u8, place: usize) -> Told
     }
 }
 
-impl Fault {
-    /// What the fault tells.
-    pub fn told(&self) -> Told
-        ensures { result ≡ fault_told self.now }
-    {
-        match self {
+/// A fault inside a pattern.
+impl From<PatternFault> for Fault {
+    ghost use Rattle.std.specs.Prelude.{◌≡◌};
+    ghost use Rattle.recipe.specs.declared.fault.Fault.TheVariants.{Pattern};
+
+    ghost from_gives = { λ flawed fault. fault ≡ Pattern flawed };
+
+    fn from(flawed: PatternFault) -> Fault {
+        Fault::Pattern(flawed)
+    }
+}
+
+/// What a fault tells.
+impl From<Fault> for Told {
+    ghost use Rattle.std.specs.Prelude.{◌≡◌};
+    ghost use Rattle.recipe.specs.Fault.{fault_told};
+
+    ghost from_gives = { λ fault told. told ≡ fault_told fault };
+
+    fn from(fault: Fault) -> Told {
+        match fault {
             Fault::TooLong => reader_told(1, 0),
-            Fault::Record(flaw, place) => reader_told(flaw.number(), *place),
-            Fault::Pattern(fault) => fault.told(),
-            Fault::NotSingle(place) => reader_told(6, *place),
-            Fault::Repeated(place) => reader_told(7, *place),
-            Fault::Spare(place) => reader_told(8, *place),
+            Fault::Record(flaw, place) => reader_told(flaw.into(), place),
+            Fault::Pattern(fault) => fault.into(),
+            Fault::NotSingle(place) => reader_told(6, place),
+            Fault::Repeated(place) => reader_told(7, place),
+            Fault::Spare(place) => reader_told(8, place),
             Fault::TooManyStrands => reader_told(9, 0),
         }
     }

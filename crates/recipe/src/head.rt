@@ -4,10 +4,11 @@ ghost use Rattle.recipe.specs.Heads.{begins as begins_at, head};
 
 use crate::fault::Fault;
 use crate::kinds::{Kind, body_length};
+use crate::site::Site;
 use theory::Flaw;
 
 /// Where a record stands, which decides the kinds that are allowed.
-#[derive(Clone, Copy)]
+#[derive(Clone, Copy, Debug, PartialEq, Eq)]
 pub enum Spot {
     /// In the list of cells.
     Cells,
@@ -36,44 +37,46 @@ impl Spot {
 }
 
 impl Kind {
-    // Whether a record of this kind may come where `forks` more forks may be nested, under so many
-    // foreach.
-    pub(crate) fn has_room(&self, forks: u8, depth: u8) -> bool
-        ensures { result ≡ has_room self.now forks depth }
+    // Whether a record of this kind may come at a site, by the forks around it.
+    pub(crate) fn has_room(&self, site: Site) -> bool
+        ensures { result ≡ has_room self.now site.forks site.depth }
     {
         match self {
-            Kind::Cobegin => forks > 0,
-            Kind::Foreach => forks > 0 && depth < 3,
+            Kind::Cobegin => site.forks > 0,
+            Kind::Foreach => site.forks > 0 && site.depth < 3,
             _ => true,
         }
     }
 }
 
-// Whether the numbers of a body are within their limits, under so many foreach.
-fn in_limits(file: &[u8], kind: Kind, depth: u8, place: usize) -> bool
-    requires { place + 1 + body_of kind ≤ length file.now }
-    ensures { result ≡ in_limits file.now kind depth place }
+// Whether the numbers of the body of the record at a site are within their limits.
+fn in_limits(file: &[u8], kind: Kind, site: Site) -> bool
+    requires { site.place + 1 + body_of kind ≤ length file.now }
+    ensures { result ≡ in_limits file.now kind site.depth site.place }
 {
+    let place = site.place;
     match kind {
         Kind::Cell | Kind::Reads | Kind::Writes | Kind::End => true,
         Kind::Load | Kind::Store | Kind::Set | Kind::When => file[place + 1] < 4,
         Kind::Add => file[place + 1] < 4 && file[place + 2] < 4,
-        Kind::Index => file[place + 1] < 4 && 1 <= file[place + 2] && file[place + 2] <= depth,
+        Kind::Index => file[place + 1] < 4 && (1..=site.depth).contains(&file[place + 2]),
         Kind::Less => file[place + 1] < 4 && file[place + 2] < 4 && file[place + 3] < 4,
-        Kind::Cobegin => 2 <= file[place + 1] && file[place + 1] <= 16,
-        Kind::Foreach => 1 <= file[place + 1] && file[place + 1] <= 64,
+        Kind::Cobegin => (2..=16).contains(&file[place + 1]),
+        Kind::Foreach => (1..=64).contains(&file[place + 1]),
     }
 }
 
-// The kind of the record at a place, where its head is in order.
-pub(crate) fn read_head(file: &[u8], spot: Spot, depth: u8, place: usize) -> Result<Kind, Fault>
-    ensures is { result ≡ head file.now spot depth place }
-    ensures whole { IfOk result (λ k. place + 1 + body_of k ≤ length file.now) }
+// The kind of the record at a site, where its head is in order.
+#[tactic(auto, unfolding(crate::specs::Heads::head, crate::specs::Kinds::kind_of, crate::specs::Kinds::body_length), using(crate::proofs::Table::lengths_agree))]
+pub(crate) fn read_head(file: &[u8], spot: Spot, site: Site) -> Result<Kind, Fault>
+    ensures is { result ≡ head file.now spot site.depth site.place }
+    ensures whole { IfOk result (λ k. site.place + 1 + body_of k ≤ length file.now) }
 {
+    let place = site.place;
     if place >= file.len() {
         return Err(Fault::Record(Flaw::Cut, place));
     }
-    let Some(kind) = Kind::of(file[place]) else {
+    let Ok(kind) = Kind::try_from(file[place]) else {
         return Err(Fault::Record(Flaw::Kind, place));
     };
     if !spot.allows(kind) {
@@ -82,21 +85,22 @@ pub(crate) fn read_head(file: &[u8], spot: Spot, depth: u8, place: usize) -> Res
     if file.len() - place <= body_length(file[place]) as usize {
         return Err(Fault::Record(Flaw::Cut, place));
     }
-    if !in_limits(file, kind, depth, place) {
+    if !in_limits(file, kind, site) {
         return Err(Fault::Record(Flaw::Limit, place));
     }
     Ok(kind)
 }
 
 /// Whether a record that may stand at the spot begins at the place.
+#[tactic(auto, unfolding(crate::specs::Heads::begins))]
 pub fn begins(file: &[u8], spot: Spot, place: usize) -> bool
     ensures { result ≡ begins_at file.now spot place }
 {
     if place >= file.len() {
         return false;
     }
-    match Kind::of(file[place]) {
-        Some(kind) => spot.allows(kind),
-        None => false,
+    match Kind::try_from(file[place]) {
+        Ok(kind) => spot.allows(kind),
+        Err(_) => false,
     }
 }

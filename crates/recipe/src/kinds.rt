@@ -1,8 +1,8 @@
 ghost use Rattle.std.specs.Prelude.{◌≡◌};
-ghost use Rattle.recipe.specs.Kinds.{body_length, kind_of};
+ghost use Rattle.recipe.specs.Kinds.{body_length};
 
 /// The kinds of records outside patterns.
-#[derive(Clone, Copy)]
+#[derive(Clone, Copy, Debug, PartialEq, Eq)]
 pub enum Kind {
     Cell,
     Reads,
@@ -19,26 +19,37 @@ pub enum Kind {
     End,
 }
 
-impl Kind {
-    /// The kind that a byte stands for.
-    pub fn of(byte: u8) -> Option<Kind>
-        ensures { result ≡ kind_of byte }
-    {
+/// A byte that is no kind.
+#[derive(Clone, Copy, Debug, PartialEq, Eq)]
+pub struct UnknownKind;
+
+/// The kind that a byte stands for.
+impl TryFrom<u8> for Kind {
+    type Error = UnknownKind;
+
+    ghost use Rattle.std.specs.Prelude.{◌≡◌};
+    ghost use Rattle.std.specs.Result.{result_ok};
+    ghost use Rattle.recipe.specs.Kinds.{kind_of};
+
+    ghost try_from_gives = { λ byte kind. result_ok kind ≡ kind_of byte };
+
+    #[tactic(auto, unfolding(crate::specs::Kinds::kind_of))]
+    fn try_from(byte: u8) -> Result<Kind, UnknownKind> {
         match byte {
-            0x01 => Some(Kind::Cell),
-            0x10 => Some(Kind::Reads),
-            0x11 => Some(Kind::Writes),
-            0x20 => Some(Kind::Load),
-            0x21 => Some(Kind::Store),
-            0x22 => Some(Kind::Set),
-            0x23 => Some(Kind::Add),
-            0x24 => Some(Kind::Index),
-            0x25 => Some(Kind::When),
-            0x26 => Some(Kind::Less),
-            0x30 => Some(Kind::Cobegin),
-            0x31 => Some(Kind::Foreach),
-            0x3F => Some(Kind::End),
-            _ => None,
+            0x01 => Ok(Kind::Cell),
+            0x10 => Ok(Kind::Reads),
+            0x11 => Ok(Kind::Writes),
+            0x20 => Ok(Kind::Load),
+            0x21 => Ok(Kind::Store),
+            0x22 => Ok(Kind::Set),
+            0x23 => Ok(Kind::Add),
+            0x24 => Ok(Kind::Index),
+            0x25 => Ok(Kind::When),
+            0x26 => Ok(Kind::Less),
+            0x30 => Ok(Kind::Cobegin),
+            0x31 => Ok(Kind::Foreach),
+            0x3F => Ok(Kind::End),
+            _ => Err(UnknownKind),
         }
     }
 }

@@ -1,4 +1,5 @@
-ghost use Rattle.std.specs.Prelude.{◌≡◌, ◌<◌, ◌≤◌, length, IfOk};
+ghost use Rattle.std.specs.Prelude.{◌≡◌, IfOk};
+ghost use Rattle.recipe.specs.Extents.{EndsBehind};
 ghost use Rattle.recipe.specs.Records.{mapped, record_at};
 ghost use Rattle.recipe.specs.Outlines.{Roomy, outline_of, outlined};
 ghost use Rattle.recipe.specs.Said.{said};
@@ -7,10 +8,11 @@ use crate::fault::Fault;
 use crate::head::Spot;
 use crate::read::read_record;
 use crate::record::{Fork, Record};
+use crate::site::Site;
 use theory::Theory;
 
 /// A record as far as the walk over statements has to know it.
-#[derive(Clone, Copy)]
+#[derive(Clone, Copy, Debug, PartialEq, Eq)]
 pub enum Outline {
     Operation,
     When,
@@ -20,22 +22,19 @@ pub enum Outline {
     Other,
 }
 
-/// The outline of the record at a place, and its end, or the first fault in it.
+/// The outline of the record at a site, and its end, or the first fault in it.
+#[tactic(auto, using(crate::proofs::RecordLaws::record_roomy))]
 pub fn read_outline<T: Theory>(
     file: &[u8],
     spot: Spot,
-    forks: u8,
-    depth: u8,
-    place: usize,
+    site: Site,
 ) -> Result<(Outline, usize), Fault>
-    ensures is { result ≡ mapped outlined (record_at T.Theory.meaning file.now spot forks depth place) }
-    ensures whole { IfOk result (λ x. (place < x.1) × (x.1 ≤ length file.now)) }
-    ensures room { IfOk result (λ x. Roomy x.0 forks depth) }
+    ensures is { result ≡ mapped outlined (record_at T.Theory.meaning file.now spot site.forks site.depth site.place) }
+    ensures whole { IfOk result (λ x. EndsBehind file.now site.place x.1) }
+    ensures room { IfOk result (λ x. Roomy x.0 site.forks site.depth) }
 {
-    match read_record::<T>(file, spot, forks, depth, place) {
-        Ok((entry, end)) => Ok((entry.outline(), end)),
-        Err(fault) => Err(fault),
-    }
+    let (entry, end) = read_record::<T>(file, spot, site)?;
+    Ok((entry.outline(), end))
 }
 
 impl<P> Record<'_, P> {
@@ -48,8 +47,7 @@ impl<P> Record<'_, P> {
             Record::When(_) => Outline::When,
             Record::Fork(fork) => Outline::Fork(*fork),
             Record::End => Outline::End,
-            Record::Cell(_) => Outline::Other,
-            Record::Effect(_, _) => Outline::Other,
+            Record::Cell(_) | Record::Effect(_, _) => Outline::Other,
         }
     }
 }

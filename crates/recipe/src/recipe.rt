@@ -8,13 +8,16 @@ ghost use Rattle.recipe.specs.Recipes.{recipe_of};
 use crate::blocks::read_block;
 use crate::cells::{find_cell, read_cells};
 use crate::fault::Fault;
+use crate::site::Site;
 use theory::Theory;
 
 const LONGEST_FILE: usize = 16_384;
 
-const MOST_FORKS: u8 = 6;
+/// How many forks may be nested.
+pub const MOST_FORKS: u8 = 6;
 
-const MOST_STRANDS: u16 = 1024;
+/// How many strands a recipe may have.
+pub const MOST_STRANDS: u16 = 1024;
 
 /// A recipe that was read: its file, and how many cells and strands it has.
 #[derive(Clone, Copy)]
@@ -27,6 +30,7 @@ pub struct Recipe<'a> {
 
 impl<'a> Recipe<'a> {
     /// Reads a file as a recipe of the theory, or tells the first fault.
+    #[tactic(auto, unfolding(crate::specs::Recipes::recipe_of))]
     pub fn read<T: Theory>(file: &'a [u8]) -> Result<Recipe<'a>, Fault>
         ensures is { mapped numbers result ≡ mapped numbered (recipe_of T.Theory.meaning file.now) }
         ensures same { IfOk result (λ x. x.file.now ≡ file.now) }
@@ -34,26 +38,25 @@ impl<'a> Recipe<'a> {
         if file.len() > LONGEST_FILE {
             return Err(Fault::TooLong);
         }
-        match read_cells::<T>(file) {
-            Ok((cells, root)) => match read_block::<T>(file, MOST_FORKS, 0, root) {
-                Ok(extent) => {
-                    if extent.end != file.len() {
-                        return Err(Fault::Spare(extent.end));
-                    }
-                    if extent.strands > MOST_STRANDS {
-                        return Err(Fault::TooManyStrands);
-                    }
-                    Ok(Recipe {
-                        file,
-                        cells,
-                        root,
-                        strands: extent.strands,
-                    })
-                }
-                Err(fault) => Err(fault),
-            },
-            Err(fault) => Err(fault),
+        let (cells, root) = read_cells::<T>(file)?;
+        let site = Site {
+            place: root,
+            forks: MOST_FORKS,
+            depth: 0,
+        };
+        let extent = read_block::<T>(file, site)?;
+        if extent.end != file.len() {
+            return Err(Fault::Spare(extent.end));
         }
+        if extent.strands > MOST_STRANDS {
+            return Err(Fault::TooManyStrands);
+        }
+        Ok(Recipe {
+            file,
+            cells,
+            root,
+            strands: extent.strands,
+        })
     }
 
     /// The file.

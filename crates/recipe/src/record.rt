@@ -10,7 +10,7 @@ pub struct Pattern<'a, P> {
 }
 
 /// What an effect says of its region.
-#[derive(Clone, Copy)]
+#[derive(Clone, Copy, Debug, PartialEq, Eq, PartialOrd, Ord)]
 pub enum Mode {
     Reads,
     Writes,
@@ -34,7 +34,7 @@ pub enum Operation<'a, P> {
 }
 
 /// A statement that splits the work: so many branches, or one block so many times.
-#[derive(Clone, Copy)]
+#[derive(Clone, Copy, Debug, PartialEq, Eq)]
 pub enum Fork {
     Cobegin(u8),
     Foreach(u8),

@@ -69,10 +69,10 @@ const BEGINNINGS: [(usize, usize, Said); 16] = [
 fn the_worked_file(rt: HostRuntime) -> Result<(), Fail> {
     says::<Sections>(&rt, &WORKED, Said::Recipe(3, 4))?;
     says::<Paths>(&rt, &WORKED, Said::Pattern(3, 1))?;
-    match Recipe::read::<Sections>(&WORKED) {
-        Ok(recipe) => assert!(rt; recipe.file() == WORKED.as_slice()),
-        Err(_) => return Err(Fail::new("refused")),
-    }
+    let Ok(recipe) = Recipe::read::<Sections>(&WORKED) else {
+        return Err(Fail::new("refused"));
+    };
+    assert!(rt; recipe.file() == WORKED.as_slice());
     for (place, end, expected) in BEGINNINGS {
         assert!(rt; end <= 68);
         for length in place..end {

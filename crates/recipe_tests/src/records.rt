@@ -1,6 +1,7 @@
 use paths::{Paths, Pattern};
-use recipe::{Fork, Operation, Record, Spot, read_block, read_record};
+use recipe::{Fork, Operation, Record, Site, Spot, read_block, read_record};
 use std::test::Fail;
+use theory::Told;
 
 // The numbers of the body of a record.
 fn numbers(record: &Record<Pattern>) -> (u8, u32, u8) {
@@ -76,18 +77,21 @@ const RECORDS: [(&[u8], Spot, (u8, u32, u8), &[u8], usize); 11] = [
     (&[0, 0x3F, 0], Spot::Statements, (0, 0, 0), &[], 2),
 ];
 
+const SITE: Site = Site {
+    place: 1,
+    forks: 1,
+    depth: 2,
+};
+
 #[test]
 fn records_say_what_stands_in_them(rt: HostRuntime) -> Result<(), Fail> {
     for (file, spot, inside, pattern, after) in RECORDS {
-        match read_record::<Paths>(file, spot, 1, 2, 1) {
-            Ok(read) => {
-                let (record, end) = read;
-                assert_eq!(rt; numbers(&record), inside);
-                assert!(rt; borrowed(&record) == pattern);
-                assert_eq!(rt; end, after);
-            }
-            Err(_) => return Err(Fail::new("a record is refused")),
-        }
+        let Ok((record, end)) = read_record::<Paths>(file, spot, SITE) else {
+            return Err(Fail::new("a record is refused"));
+        };
+        assert_eq!(rt; numbers(&record), inside);
+        assert!(rt; borrowed(&record) == pattern);
+        assert_eq!(rt; end, after);
     }
     Ok(())
 }
@@ -112,9 +116,16 @@ const BLOCKS: [(&[u8], u8, u8, usize, Result<(usize, u16), u8>); 7] = [
 #[test]
 fn blocks_end_with_their_end(rt: HostRuntime) {
     for (file, forks, depth, place, expected) in BLOCKS {
-        match read_block::<Paths>(file, forks, depth, place) {
+        match read_block::<Paths>(
+            file,
+            Site {
+                place,
+                forks,
+                depth,
+            },
+        ) {
             Ok(extent) => assert_eq!(rt; Ok((extent.end, extent.strands)), expected),
-            Err(fault) => assert_eq!(rt; Err(fault.told().number), expected),
+            Err(fault) => assert_eq!(rt; Err(Told::from(fault).number), expected),
         }
     }
 }

@@ -32,7 +32,7 @@ pub(crate) fn says<T: Theory>(rt: &impl Abort, file: &[u8], expected: Said) -> R
             Ok(())
         },
         Err(found) => {
-            assert_eq!(rt; refused(found.told()), expected);
+            assert_eq!(rt; refused(found.into()), expected);
             Ok(())
         },
     }

@@ -7,7 +7,7 @@ use Rattle.rpl.specs.Lists.{rest}
 use Rattle.rpl.specs.Sharing.{common, common_key, common_nil, either, in_front, in_front_if, key_of, meeting}
 use Rattle.rpl.specs.Table.{RowOf, TableOf, is_some, meeting_bit}
 use Rattle.rpl.proofs.Lists.{empty, headed}
-use Rattle.rpl.proofs.CommonSteps.{common_meeting}
+use Rattle.rpl.proofs.CommonSteps.{common_meeting, nil_there, none_there, room_both, room_left, room_right, star_left}
 use Rattle.rpl.proofs.Entries.{entry, later, next_entry, put_first, put_next}
 
 -- one bit
@@ -40,9 +40,6 @@ meeting_some (One a) (One b) left right both = sym (front_if_some (common_key a 
 abbrev Bit : (List Element → Option (List Key)) → Bool → List Element → Type 0
 Bit f bit q = bit ≡ is_some (f q)
 
-pub first_end : (row : List Bool) (q : List Element) → length q ≤ 0 → 1 ≤ length row → RowOf common_nil (set row 0 true) q
-first_end row q h k = put_first false (Bit common_nil) row q true h k (ap (λ (x : List Element). is_some (common_nil x)) (sym (empty q h)))
-
 pub first_next : (row : List Bool) (q : List Element) → 1 ≤ length q → RowOf common_nil row (rest q) → get_or row (length q - 1) false ≡ is_some (common_nil (rest q))
 first_next = next_entry false (Bit common_nil)
 
@@ -67,14 +64,6 @@ module _ (p : List Element) (hp : 1 ≤ length p) where
       go : (row : List Bool) (q : List Element) → length q ≤ 0 → RowOf (common (rest p)) row q → RowOf (common (Star ∷ rest p)) row q
       go row [] h r = r
       go row (b ∷ q) h r = absurd (omega arith)
-
-  pub next_one_end : (row : List Bool) (q : List Element) → length q ≤ 0 → 1 ≤ length row → (get_or p 0 Star ≡ Star → ⊥) → RowOf (common p) (set row 0 false) q
-  next_one_end row q h k n = put_first false (Bit (common p)) row q false h k (go p hp n ∙ ap (λ (x : List Element). is_some (common p x)) (sym (empty q h)))
-    where
-      go : (p : List Element) → 1 ≤ length p → (get_or p 0 Star ≡ Star → ⊥) → false ≡ is_some (common p [])
-      go [] h n = absurd (omega arith)
-      go (Star ∷ p) h n = absurd (n refl)
-      go (One a ∷ p) h n = refl
 
   -- old is the row of the rest of p, row already that of p at the rest of q
   pub next_on : (old row : List Bool) (q : List Element) (bit : Bool) → 1 ≤ length q → length q < length row → RowOf (common (rest p)) old q → RowOf (common p) row (rest q) →
@@ -118,3 +107,11 @@ table_right table (a ∷ p) q h r = (later_row (a ∷ p) (get_or table (suc (len
 
 pub table_both : (table : List (List Bool)) (p q : List Element) → 1 ≤ length p → 1 ≤ length q → TableOf q table p → TableOf (rest q) table (rest p)
 table_both table p q h k r = table_left table p (rest q) h (table_right table p q k r)
+
+-- what the functions that fill rows and the table stand on
+pub ruleset row_steps = (first_next, first_star, first_one, next_star_end, next_on)
+
+pub ruleset table_steps = (table_first, table_next)
+
+-- and the search for the shared cell
+pub ruleset found_steps = (table_bit, table_left, table_right, table_both, room_left, room_right, room_both, none_there, nil_there, star_left)

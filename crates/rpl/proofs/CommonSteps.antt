@@ -1,7 +1,7 @@
 -- One step towards a shared cell, on the lists behind the slices. Assumes nothing.
 use Rattle.std.proofs.Common.{◌≡◌, ℕ, suc, ◌≤◌, Bool, true, false, List, [], ◌∷◌, length, get_or, Some, None, Option, sym, refl, ap, ◌∙◌, subst, arith}
+use Rattle.std.proofs.lemmas.Bool.{false≢true}
 use Rattle.rpl.specs.declared.element.Key.{Key}
-use Rattle.rpl.specs.declared.element.Part.{Part}
 use Rattle.rpl.specs.declared.element.Element.{Element}
 use Rattle.rpl.specs.declared.element.Element.TheVariants.{Star, One}
 use Rattle.rpl.specs.Lists.{rest}
@@ -13,7 +13,7 @@ use Rattle.rpl.proofs.Shared.{common_short}
 -- what a bit says of the answer
 pub none_there : {X : Type 0} (bit : Bool) (o : Option X) → bit ≡ is_some o → bit ≡ false → None ≡ o
 none_there bit None e f = refl
-none_there bit (Some x) e f = absurd (let z : ◌≡◌ {A = ℕ} 0 1 = cc in omega arith)
+none_there bit (Some x) e f = cc
 
 pub nil_there : (bit : Bool) (p q : List Element) → length p ≤ 0 → bit ≡ is_some (common p q) → bit ≡ true → Some [] ≡ common p q
 nil_there bit p q h e f = subst (λ (x : List Element). Some [] ≡ common x q) (sym (empty p h)) (go q (sym (e ∙ ap (λ (x : List Element). is_some (common x q)) (empty p h)) ∙ f))
@@ -21,7 +21,7 @@ nil_there bit p q h e f = subst (λ (x : List Element). Some [] ≡ common x q) 
     go : (q : List Element) → is_some (common_nil q) ≡ true → Some [] ≡ common_nil q
     go [] e = refl
     go (Star ∷ q) e = go q e
-    go (One b ∷ q) e = absurd (let z : ◌≡◌ {A = ℕ} 0 1 = cc in omega arith)
+    go (One b ∷ q) e = cc
 
 -- two paths with first elements, from what they share without them
 pub common_meeting : (p q : List Element) → 1 ≤ length p → 1 ≤ length q →
@@ -30,27 +30,16 @@ common_meeting [] q h k = absurd (omega arith)
 common_meeting (a ∷ p) [] h k = absurd (omega arith)
 common_meeting (a ∷ p) (b ∷ q) h k = rw (rest_is a p, rest_is b q) refl
 
-pub met : (p q : List Element) (a b : Element) (left right both : Option (List Key)) → 1 ≤ length p → 1 ≤ length q → get_or p 0 Star ≡ a → get_or q 0 Star ≡ b →
-    left ≡ common (rest p) q → right ≡ common p (rest q) → both ≡ common (rest p) (rest q) → meeting a b left right both ≡ common p q
-met p q a b left right both h k e f l r g = rw (sym e, sym f, l, r, g) (common_meeting p q h k)
-
--- where the second path is empty
-pub one_end : (p q : List Element) (a : Part) → 1 ≤ length p → length q ≤ 0 → get_or p 0 Star ≡ One a → None ≡ common p q
-one_end p [] a h k e = subst (λ (x : List Element). None ≡ common x []) (sym (headed Star (One a) p h e)) refl
-one_end p (b ∷ q) a h k e = absurd (omega arith)
-
 -- a star that ends here
-pub star_left : (p q : List Element) (w : List Key) → 1 ≤ length p → get_or p 0 Star ≡ Star → Some w ≡ common (rest p) q → Some w ≡ common p q
-star_left p q w h e r = subst (λ (x : List Element). Some w ≡ common x q) (sym (headed Star Star p h e)) (go (rest p) q r)
+pub star_left : (p q : List Element) (o : Option (List Key)) (bit : Bool) → 1 ≤ length p → get_or p 0 Star ≡ Star → o ≡ common (rest p) q →
+    bit ≡ is_some (common (rest p) q) → bit ≡ true → o ≡ common p q
+star_left p q None bit h e r b t = absurd (false≢true (ap is_some r ∙ sym b ∙ t))
+star_left p q (Some w) bit h e r b t = subst (λ (x : List Element). Some w ≡ common x q) (sym (headed Star Star p h e)) (go (rest p) q r)
   where
     go : (p q : List Element) → Some w ≡ common p q → Some w ≡ common (Star ∷ p) q
     go p [] r = r
     go p (Star ∷ q) r = ap (λ (o : Option (List Key)). either o (common (Star ∷ p) q)) r
     go p (One b ∷ q) r = ap (λ (o : Option (List Key)). either o (in_front (key_of b) (common (Star ∷ p) q))) r
-
-pub star_end : (p q : List Element) → 1 ≤ length p → length q ≤ 0 → get_or p 0 Star ≡ Star → None ≡ common (rest p) q → None ≡ common p q
-star_end p [] h k e r = subst (λ (x : List Element). None ≡ common x []) (sym (headed Star Star p h e)) r
-star_end p (b ∷ q) h k e r = absurd (omega arith)
 
 -- there is room for one more key
 fewer : (q : List Element) (n : ℕ) → 1 ≤ length q → length q ≤ suc n → length (rest q) ≤ n

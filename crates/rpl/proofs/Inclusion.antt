@@ -142,11 +142,11 @@ lift n AnyIndex (One AnyIndex) f h = tt
 -- an AnyIndex of q never stands for the name of a star, so a star of p is taken by a star of q alone
 lifted : (n : ℕ) {q : List Element} {w : List Key} → Cells q w → Fresh n q → (p : List Element) → w ≡ cell_with n p → Matches Covers q p
 lifted n done f [] e = done
-lifted n done f (b ∷ p) e = absurd (let z : ◌≡◌ {A = ℕ} 0 1 = cc in omega arith)
+lifted n done f (b ∷ p) e = cc
 lifted n (skip m) f p e = skip (lifted n m f p e)
-lifted n (more m) f [] e = absurd (let z : ◌≡◌ {A = ℕ} 0 1 = cc in omega arith)
+lifted n (more m) f [] e = cc
 lifted n (more m) f (b ∷ p) e = more (lifted n m f p cc)
-lifted n (one t m) f [] e = absurd (let z : ◌≡◌ {A = ℕ} 0 1 = cc in omega arith)
+lifted n (one t m) f [] e = cc
 lifted n (one {a = a} {e = x} t m) f (b ∷ p) e =
     let same : x ≡ key_with n b = cc in
     one (lift n a b f.0 (subst (Stands a) same t)) (lifted n m f.1 p cc)

@@ -1,5 +1,4 @@
 pub mod Bits
-pub mod CellArray
 pub mod CommonSteps
 pub mod Entries
 pub mod Greedy

@@ -1,6 +1,6 @@
 -- Lists behind slice patterns. Assumes nothing.
-use Rattle.std.proofs.Common.{◌≡◌, ◌≤◌, List, [], ◌∷◌, length, get_or, sym, refl, ap, ◌∙◌, arith}
-use Rattle.std.proofs.lemmas.List.{take_rest}
+use Rattle.std.proofs.Common.{◌≡◌, ◌≤◌, List, [], ◌∷◌, length, get_or, sym, ap, ◌∙◌, arith}
+use Rattle.std.proofs.lemmas.List.{nil_from_length, take_rest}
 use Rattle.rpl.specs.Lists.{rest}
 
 -- the rest of a list with a first element
@@ -13,5 +13,4 @@ headed d x [] h e = absurd (omega arith)
 headed d x (y ∷ ys) h e = ap (λ (z : _). z ∷ ys) e ∙ ap (λ (zs : List _). x ∷ zs) (sym (rest_is y ys))
 
 pub empty : {X : Type 0} (xs : List X) → length xs ≤ 0 → xs ≡ []
-empty [] h = refl
-empty (x ∷ xs) h = absurd (omega arith)
+empty xs h = nil_from_length xs (omega arith)

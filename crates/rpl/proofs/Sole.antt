@@ -44,12 +44,12 @@ single_exact [] = nil_only
 single_exact (Star ∷ p) = (Named 0 ∷ a_cell p, more (skip (a_cell_in p)), λ e. let l : length (Named 0 ∷ a_cell p) ≡ length (a_cell p) = ap length e in omega arith)
 single_exact (One (Name a) ∷ p) = front_only (single_path p) p (Name a) (name_only a) (single_exact p)
 single_exact (One (Index a) ∷ p) = front_only (single_path p) p (Index a) (index_only a) (single_exact p)
-single_exact (One AnyIndex ∷ p) = (Indexed 1 ∷ a_cell p, one tt (a_cell_in p), λ e. let z : ◌≡◌ {A = ℕ} 1 0 = cc in omega arith)
+single_exact (One AnyIndex ∷ p) = (Indexed 1 ∷ a_cell p, one tt (a_cell_in p), λ e. cc)
 
 key_exact : (a b : Key) → Tells (same_key a b) (a ≡ b)
 key_exact (Named a) (Named b) = tells_eqb a b (ap Named) (λ e. cc)
-key_exact (Named a) (Indexed b) = λ e. let z : ◌≡◌ {A = ℕ} 0 1 = cc in omega arith
-key_exact (Indexed a) (Named b) = λ e. let z : ◌≡◌ {A = ℕ} 0 1 = cc in omega arith
+key_exact (Named a) (Indexed b) = λ e. cc
+key_exact (Indexed a) (Named b) = λ e. cc
 key_exact (Indexed a) (Indexed b) = tells_eqb a b (ap Indexed) (λ e. cc)
 
 cons_same : (a b : Key) (u v : List Key) → (a ≡ b) × (u ≡ v) → a ∷ u ≡ b ∷ v
@@ -60,8 +60,8 @@ same_cons a b u v e = (cc, cc)
 
 pub same_exact : (u v : List Key) → Tells (same_cell u v) (u ≡ v)
 same_exact [] [] = refl
-same_exact [] (b ∷ v) = λ e. let z : ◌≡◌ {A = ℕ} 0 1 = cc in omega arith
-same_exact (a ∷ u) [] = λ e. let z : ◌≡◌ {A = ℕ} 0 1 = cc in omega arith
+same_exact [] (b ∷ v) = λ e. cc
+same_exact (a ∷ u) [] = λ e. cc
 same_exact (a ∷ u) (b ∷ v) =
     tells_as (same_key a b && same_cell u v) ((a ≡ b) × (u ≡ v)) (a ∷ u ≡ b ∷ v) (cons_same a b u v) (same_cons a b u v)
     (tells_both (same_key a b) (same_cell u v) (a ≡ b) (u ≡ v) (key_exact a b) (same_exact u v))

@@ -1,12 +1,8 @@
--- The cell that a value of the program stands for. Assumes nothing.
-use Rattle.std.specs.Prelude.{◌-◌, List, drop, Some, None, Option}
+-- The keys that an answer of the program shows. Assumes nothing.
+use Rattle.std.specs.Prelude.{List, Some, None, Option}
+use Rattle.arrayvec.specs.ArrayVec.{ArrayVec}
 use Rattle.rpl.specs.declared.element.Key.{Key}
-use Rattle.rpl.specs.declared.cell.Cell.{Cell}
 
--- its keys stand at the end of the array
-abbrev pub keys_of : Cell → List Key
-keys_of c = drop (22 - c.len) c.keys
-
-abbrev pub told : Option Cell → Option (List Key)
+abbrev pub told : Option (ArrayVec Key) → Option (List Key)
 told None = None
-told (Some c) = Some (keys_of c)
+told (Some c) = Some c.items

@@ -1,5 +1,6 @@
 -- Paths of just one cell. Assumes nothing.
-use Rattle.std.specs.Prelude.{◌≡◌, Bool, true, false, ◌&&◌, ◌≢◌, List, [], ◌∷◌}
+use Rattle.std.specs.Prelude.{◌≡◌, Bool, true, false, ◌≢◌, List, [], ◌∷◌}
+use Rattle.std.specs.List.{list_all}
 use Rattle.rpl.specs.declared.element.Key.{Key}
 use Rattle.rpl.specs.declared.element.Part.TheVariants.{Name, Index, AnyIndex}
 use Rattle.rpl.specs.declared.element.Element.{Element}
@@ -15,8 +16,7 @@ single_element (One (Index a)) = true
 single_element (One AnyIndex) = false
 
 abbrev pub single_path : List Element → Bool
-single_path [] = true
-single_path (a ∷ p) = single_element a && single_path p
+single_path = list_all single_element
 
 -- a cell of any path, and the only one of a single path
 abbrev pub a_cell : List Element → List Key

@@ -1,5 +1,5 @@
 /// An element of a cell.
-#[derive(Clone, Copy)]
+#[derive(Clone, Copy, Debug, PartialEq, Eq)]
 pub enum Key {
     /// A name.
     Named(u16),
@@ -7,8 +7,20 @@ pub enum Key {
     Indexed(u32),
 }
 
+/// What stands in the places of a cell that hold no key yet.
+impl Default for Key {
+    ghost use Rattle.std.specs.Prelude.{◌≡◌};
+    ghost use Rattle.rpl.specs.declared.element.Key.TheVariants.{Named};
+
+    ghost is_default = { λ key. key ≡ Named 0 };
+
+    fn default() -> Key {
+        Key::Named(0)
+    }
+}
+
 /// An element of a path that stands for just one key.
-#[derive(Clone, Copy)]
+#[derive(Clone, Copy, Debug, PartialEq, Eq)]
 pub enum Part {
     /// This name.
     Name(u16),
@@ -19,9 +31,10 @@ pub enum Part {
 }
 
 /// An element of a path.
-#[derive(Clone, Copy)]
+#[derive(Clone, Copy, Debug, Default, PartialEq, Eq)]
 pub enum Element {
     /// `*`: no key, or one key of either sort and then itself.
+    #[default]
     Star,
     /// Just one key.
     One(Part),

@@ -48,7 +48,7 @@ impl Letter for Element {
 }
 
 /// What matching a path with a word comes to.
-#[derive(Clone, Copy)]
+#[derive(Clone, Copy, Debug, PartialEq, Eq)]
 pub enum Outcome {
     /// The path has the word.
     Match,
@@ -60,17 +60,17 @@ pub enum Outcome {
 
 // Greedy matching: a star takes as few letters as it can, and what comes up short behind it settles
 // the whole, so that no earlier star is tried again.
+#[tactic(auto, using(crate::proofs::GreedySteps::star_settled))]
 fn matched<L: Letter>(path: &[Element], word: &[L]) -> Outcome
     ensures { result ≡ greedy L.Letter.takes path.now word.now }
 {
     match path {
         [Element::Star, rest @ ..] => match matched(rest, word) {
-            Outcome::Match => Outcome::Match,
-            Outcome::Short => Outcome::Short,
             Outcome::Miss => match word {
                 [_, others @ ..] => matched(path, others),
                 [] => Outcome::Short,
             },
+            settled => settled,
         },
         [Element::One(part), rest @ ..] => match word {
             [letter, others @ ..] => {
@@ -93,9 +93,5 @@ fn matched<L: Letter>(path: &[Element], word: &[L]) -> Outcome
 pub(crate) fn matches<L: Letter>(path: &[Element], word: &[L]) -> bool
     ensures { result ≡ is_match (greedy L.Letter.takes path.now word.now) }
 {
-    match matched(path, word) {
-        Outcome::Match => true,
-        Outcome::Miss => false,
-        Outcome::Short => false,
-    }
+    matched(path, word) == Outcome::Match
 }

@@ -8,6 +8,8 @@ use crate::cell::Cell;
 use crate::element::{Element, Key, Part};
 use crate::singles::a_key;
 
+// Each function states the bounds on its paths: a type that holds them would be made anew at each rest.
+
 // Whether a path shares a cell with each suffix of another, under the suffix's length.
 type Row = [bool; 13];
 
@@ -41,6 +43,7 @@ fn meet(a: &Element, b: &Element, left: bool, right: bool, both: bool) -> bool
 }
 
 // The row of the empty path.
+#[tactic(auto, using(crate::proofs::Bits::row_steps))]
 fn first_row(q: &[Element], row: &mut Row)
     requires { length q.now ≤ 12 }
     ensures { RowOf common_nil row.new q.now }
@@ -61,8 +64,11 @@ fn first_row(q: &[Element], row: &mut Row)
 }
 
 // The row of a path, in the place of that of its rest.
+#[tactic(auto, using(crate::proofs::Bits::row_steps))]
 fn next_row(p: &[Element], q: &[Element], row: &mut Row)
-    requires { (1 ≤ length p.now) × ((length q.now ≤ 12) × (RowOf (common (rest p.now)) row.old q.now)) }
+    requires some { 1 ≤ length p.now }
+    requires few { length q.now ≤ 12 }
+    requires before { RowOf (common (rest p.now)) row.old q.now }
     ensures { RowOf (common p.now) row.new q.now }
 {
     match q {
@@ -82,8 +88,10 @@ fn next_row(p: &[Element], q: &[Element], row: &mut Row)
 }
 
 // The rows of a path and its suffixes.
+#[tactic(auto, using(crate::proofs::Bits::table_steps))]
 fn fill_table(p: &[Element], q: &[Element], table: &mut Table)
-    requires { (length p.now ≤ 12) × (length q.now ≤ 12) }
+    requires few_rows { length p.now ≤ 12 }
+    requires few { length q.now ≤ 12 }
     ensures { TableOf q.now table.new p.now }
 {
     match p {
@@ -106,47 +114,46 @@ fn in_front(key: Key, answer: Option<Cell>) -> Option<Cell>
     requires { AtMost 21 (told answer) }
     ensures { told result ≡ in_front key (told answer) }
 {
-    match answer {
-        Some(cell) => Some(cell.after(key)),
-        None => None,
-    }
+    let mut cell = answer?;
+    cell.insert(0, key);
+    Some(cell)
 }
 
 // The cell that the paths share: where the table has none, nothing is looked for.
+#[tactic(auto, using(crate::proofs::Bits::found_steps))]
 fn found(p: &[Element], q: &[Element], table: &Table) -> Option<Cell>
-    requires { (length p.now ≤ 12) × ((length q.now ≤ 12) × (TableOf q.now table.now p.now)) }
+    requires few_rows { length p.now ≤ 12 }
+    requires few { length q.now ≤ 12 }
+    requires filled { TableOf q.now table.now p.now }
     ensures { told result ≡ common p.now q.now }
 {
     if !table[p.len()][q.len()] {
         return None;
     }
-    match p {
-        [] => Some(Cell::empty()),
-        [Element::Star, rest @ ..] => match found(rest, q, table) {
-            Some(cell) => Some(cell),
-            None => match q {
-                [] => None,
-                [Element::Star, others @ ..] => found(p, others, table),
-                [Element::One(b), others @ ..] => in_front(a_key(b), found(p, others, table)),
-            },
-        },
-        [Element::One(a), rest @ ..] => match q {
-            [] => None,
-            [Element::Star, others @ ..] => match found(p, others, table) {
-                Some(cell) => Some(cell),
-                None => in_front(a_key(a), found(rest, q, table)),
-            },
-            [Element::One(b), others @ ..] => match shared_key(a, b) {
-                Some(key) => in_front(key, found(rest, others, table)),
-                None => None,
-            },
-        },
+    match (p, q) {
+        ([], _) => Some(Cell::new()),
+        ([Element::Star, rest @ ..], _) if table[rest.len()][q.len()] => found(rest, q, table),
+        ([Element::Star, ..], [Element::Star, others @ ..]) => found(p, others, table),
+        ([Element::Star, ..], [Element::One(b), others @ ..]) => {
+            in_front(a_key(b), found(p, others, table))
+        }
+        ([Element::One(_), ..], [Element::Star, others @ ..]) if table[p.len()][others.len()] => {
+            found(p, others, table)
+        }
+        ([Element::One(a), rest @ ..], [Element::Star, ..]) => {
+            in_front(a_key(a), found(rest, q, table))
+        }
+        ([Element::One(a), rest @ ..], [Element::One(b), others @ ..]) => {
+            in_front(shared_key(a, b)?, found(rest, others, table))
+        }
+        (_, []) => None,
     }
 }
 
 /// A cell of both paths, or none where they share none.
 pub fn share(a: &[Element], b: &[Element]) -> Option<Cell>
-    requires { (length a.now ≤ 12) × (length b.now ≤ 12) }
+    requires few_a { length a.now ≤ 12 }
+    requires few_b { length b.now ≤ 12 }
     ensures { told result ≡ common a.now b.now }
 {
     let mut table = [[false; 13]; 13];

@@ -1,5 +1,4 @@
 ghost use Rattle.std.specs.Prelude.{◌≡◌, ◌≤◌, length};
-ghost use Rattle.rpl.specs.Cell.{keys_of};
 ghost use Rattle.rpl.specs.Sharing.{key_of};
 ghost use Rattle.rpl.specs.Singles.{a_cell, single_element, single_path};
 
@@ -32,20 +31,20 @@ fn settled(element: &Element) -> bool
 pub fn single(path: &[Element]) -> bool
     ensures { result ≡ single_path path.now }
 {
-    match path {
-        [] => true,
-        [first, rest @ ..] => settled(first) && single(rest),
-    }
+    path.iter().all(settled)
 }
 
 /// A cell of the path: the only one where the path is single.
+#[tactic(auto, using(crate::proofs::Steps::cell_one, crate::proofs::Steps::cell_star))]
 pub fn only(path: &[Element]) -> Cell
     requires { length path.now ≤ 22 }
-    ensures { keys_of result ≡ a_cell path.now }
+    ensures { result.items ≡ a_cell path.now }
 {
-    match path {
-        [] => Cell::empty(),
-        [Element::Star, rest @ ..] => only(rest),
-        [Element::One(part), rest @ ..] => only(rest).after(a_key(part)),
+    let mut cell = Cell::new();
+    for element in path {
+        if let Element::One(part) = element {
+            cell.push(a_key(part));
+        }
     }
+    cell
 }

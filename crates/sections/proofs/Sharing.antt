@@ -1,7 +1,9 @@
 -- The least shared cell, from the least number of steps. Assumes nothing.
 --
 -- (f, s, n)   a section that begins no later than (g, r, m)
-use Rattle.std.proofs.Common.{◌≡◌, ℕ, ◌+◌, ◌-◌, ◌*◌, ◌/◌, ◌<◌, ◌≤◌, Some, None, Option, refl, ap, subst, mul-le-mul_left, arith}
+use Rattle.std.specs.Bool.{then_some}
+use borrow.Author.Tests.{ltb-false}
+use Rattle.std.proofs.Common.{Bool, true, false, ltb, ltb-true, ◌≡◌, ℕ, ◌+◌, ◌-◌, ◌*◌, ◌/◌, ◌<◌, ◌≤◌, Some, None, Option, refl, ap, subst, mul-le-mul_left, arith}
 use Prim.Native.Nat.{◌∣◌}
 use native.Mathlib.Nat.{dvd-mul_right, mul-div_cancel', le_of_mul-le-mul_left}
 use Rattle.euclid.specs.Steps.{Least}
@@ -36,19 +38,20 @@ module _ (f s n g r m : ℕ) (le : f ≤ g) where
     whole : s * ((g - f + r * u) / s) ≡ g - f + r * u
     whole = mul-div_cancel' s F.meets
 
-    -- the first section has ended by then
-    pub none_first : 0 < s → n ≤ (g - f + r * u) / s → LeastBoth (Among f s n) (Among g r m) None
-    none_first p h y (t, (l, a)) (v, (k, b)) =
-        let w : u ≤ v = F.first v (meet y t v a b) in
-        let c : s * ((g - f + r * u) / s) ≤ s * t = omega (arith, whole, mul-le-mul_left r w) in
-        let d = le_of_mul-le-mul_left c p in
-        omega arith
-
-    pub found : u < m → (g - f + r * u) / s < n → LeastBoth (Among f s n) (Among g r m) (Some (f + (g - f + r * u)))
-    found h k = (
-      ((g - f + r * u) / s, (k, omega (arith, whole))),
-      (
-        (u, (h, omega arith)),
-        λ y (t, (l, a)) (v, (i, b)). omega (arith, mul-le-mul_left r (F.first v (meet y t v a b))),
-      ),
-    )
+    -- the answer once the second section has not ended: none where the first one has
+    pub found : 0 < s → u < m → LeastBoth (Among f s n) (Among g r m) (then_some (ltb ((g - f + r * u) / s) n) (f + (g - f + r * u)))
+    found p h = go (ltb ((g - f + r * u) / s) n) refl
+      where
+        go : (t : Bool) → ltb ((g - f + r * u) / s) n ≡ t → LeastBoth (Among f s n) (Among g r m) (then_some t (f + (g - f + r * u)))
+        go true e = (
+          ((g - f + r * u) / s, (ltb-true _ _ e, omega (arith, whole))),
+          (
+            (u, (h, omega arith)),
+            λ y (t, (l, a)) (v, (i, b)). omega (arith, mul-le-mul_left r (F.first v (meet y t v a b))),
+          ),
+        )
+        go false e = λ y (t, (l, a)) (v, (k, b)).
+            let c : s * ((g - f + r * u) / s) ≤ s * t = omega (arith, whole, mul-le-mul_left r (F.first v (meet y t v a b))) in
+            let d = le_of_mul-le-mul_left c p in
+            let n = ltb-false _ _ e in
+            omega arith

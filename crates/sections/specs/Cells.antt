@@ -2,7 +2,8 @@
 --
 -- section   cells at a fixed distance from each other: first, first + step, .. , count of them
 -- cell      a number
-use Rattle.std.specs.Prelude.{◌≡◌, ℕ, zero, suc, ◌+◌, ◌-◌, ◌*◌, ◌<◌, ◌≤◌, Bool, true, false, cond, ◌&&◌, ◌||◌, List, [], ◌∷◌, Some, None, Option, nat_eq}
+use Rattle.std.specs.Prelude.{◌≡◌, ℕ, zero, suc, ◌+◌, ◌-◌, ◌*◌, ◌<◌, ◌≤◌, Bool, List, [], ◌∷◌, Some, None, Option, nat_eq}
+use Rattle.std.specs.List.{list_any, list_all, find}
 use Rattle.sections.specs.declared.section.Section.{Section}
 
 -- x is first + step × t for some t below count
@@ -28,18 +29,6 @@ LeastShared a b r = LeastBoth (In a) (In b) r
 
 -- The same by going through the cells one by one.
 
-abbrev pub any : (ℕ → Bool) → List ℕ → Bool
-any test [] = false
-any test (x ∷ xs) = test x || any test xs
-
-abbrev pub all : (ℕ → Bool) → List ℕ → Bool
-all test [] = true
-all test (x ∷ xs) = test x && all test xs
-
-abbrev pub find : (ℕ → Bool) → List ℕ → Option ℕ
-find test [] = None
-find test (x ∷ xs) = cond (test x) (Some x) (find test xs)
-
 -- that many cells from the first on
 unfoldable pub cells_from : (count first step : ℕ) → List ℕ
 cells_from zero first step = []
@@ -50,11 +39,11 @@ cells s = cells_from s.count s.first s.step
 
 -- whether x is one of the cells
 unfoldable pub has : Section → ℕ → Bool
-has s x = any (nat_eq x) (cells s)
+has s x = list_any (nat_eq x) (cells s)
 
 -- whether each cell of a is one of b
 unfoldable pub within : Section → Section → Bool
-within a b = all (has b) (cells a)
+within a b = list_all (has b) (cells a)
 
 -- the first of a's cells that is one of b: the least, since they ascend
 unfoldable pub shown : Section → Section → Option ℕ

@@ -1,11 +1,12 @@
 -- Going through the cells one by one answers membership, inclusion and sharing. Assumes nothing.
-use Rattle.std.specs.Prelude.{◌≡◌, ℕ, zero, suc, ◌+◌, ◌*◌, ◌<◌, Bool, true, false, cond, ◌&&◌, ◌||◌, Some, None, Option, ◌==◌, ◌≢◌, nat_eq}
+use Rattle.std.specs.Prelude.{◌≡◌, ℕ, zero, suc, ◌+◌, ◌*◌, ◌<◌, Bool, true, false, cond, ◌&&◌, ◌||◌, Some, None, Option, ◌≢◌, nat_eq}
 use Rattle.std.proofs.Common.{subst, mul-zero, mul-suc}
 use native.Mathlib.Omega.{arith}
+use Rattle.std.specs.List.{list_any, list_all, find}
 use Rattle.theory.specs.Meaning.{Tells}
 use Rattle.theory.specs.Telling.{tells_eqb}
 use Rattle.sections.specs.declared.section.Section.{Section}
-use Rattle.sections.specs.Cells.{Among, In, Included, LeastBoth, LeastShared, any, all, find, cells_from, has, within, shown}
+use Rattle.sections.specs.Cells.{Among, In, Included, LeastBoth, LeastShared, cells_from, has, within, shown}
 
 -- the first of n + 1 cells, and the others
 here : (n f s : ℕ) → Among f s (suc n) f
@@ -23,10 +24,10 @@ has_turn n f s x true b e h = rw e (here n f s)
 has_turn n f s x false true e h = further n f s x h
 has_turn n f s x false false e h = λ i. h (split n f s x e i)
 
-among_tells : (n f s x : ℕ) → Tells (any (nat_eq x) (cells_from n f s)) (Among f s n x)
+among_tells : (n f s x : ℕ) → Tells (list_any (nat_eq x) (cells_from n f s)) (Among f s n x)
 unfolding cells_from
 among_tells zero f s x = λ (t, (l, e)). omega arith
-among_tells (suc n) f s x = has_turn n f s x (x == f) (any (nat_eq x) (cells_from n (f + s) s)) (tells_eqb x f (λ e. e) (λ e. e)) (among_tells n (f + s) s x)
+among_tells (suc n) f s x = has_turn n f s x _ _ (tells_eqb x f (λ e. e) (λ e. e)) (among_tells n (f + s) s x)
 
 pub has_tells : (s : Section) (x : ℕ) → Tells (has s x) (In s x)
 unfolding has
@@ -43,10 +44,10 @@ module _ (Q : ℕ → Type 0) (test : ℕ → Bool) (tells : (x : ℕ) → Tells
   all_turn n f s true false q h = λ every. h (λ x i. every x (further n f s x i))
   all_turn n f s false b q h = λ every. q (every f (here n f s))
 
-  all_tells : (n f s : ℕ) → Tells (all test (cells_from n f s)) ((x : ℕ) → Among f s n x → Q x)
+  all_tells : (n f s : ℕ) → Tells (list_all test (cells_from n f s)) ((x : ℕ) → Among f s n x → Q x)
   unfolding cells_from
   all_tells zero f s = λ x (t, (l, e)). absurd (omega arith)
-  all_tells (suc n) f s = all_turn n f s (test f) (all test (cells_from n (f + s) s)) (tells f) (all_tells n (f + s) s)
+  all_tells (suc n) f s = all_turn n f s _ _ (tells f) (all_tells n (f + s) s)
 
   past : (n f s : ℕ) → (Q f → ⊥) → (o : Option ℕ) → LeastBoth (Among (f + s) s n) Q o → LeastBoth (Among f s (suc n)) Q o
   past n f s other None h = λ x i q. h x (split n f s x (λ e. other (subst Q e q)) i) q
@@ -59,7 +60,7 @@ module _ (Q : ℕ → Type 0) (test : ℕ → Bool) (tells : (x : ℕ) → Tells
   find_least : (n f s : ℕ) → LeastBoth (Among f s n) Q (find test (cells_from n f s))
   unfolding cells_from
   find_least zero f s = λ x (t, (l, e)) q. omega arith
-  find_least (suc n) f s = find_turn n f s (test f) (find test (cells_from n (f + s) s)) (tells f) (find_least n (f + s) s)
+  find_least (suc n) f s = find_turn n f s _ _ (tells f) (find_least n (f + s) s)
 
 pub within_tells : (a b : Section) → Tells (within a b) (Included a b)
 unfolding within

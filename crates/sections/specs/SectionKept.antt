@@ -26,7 +26,7 @@ read_inside file at depth h =
     (λ _. provided_inside file at (byte file at == 0x48) Kind _ h
     (λ _. provided_inside file at (nat_le (at + 9) (length file)) Cut _ h
     (λ l. provided_inside file at (hole_allowed depth (byte file (at + 1)) (byte file (at + 2))) Limit (body file at) h
-    (λ _. built_inside file at (byte file (at + 1)) (byte file (at + 2)) (word file (at + 3)) (word file (at + 5)) (word file (at + 7)) (dec_lt 0 (word file (at + 5))) (dec_lt 0 (word file (at + 7))) (leb-true (at + 9) (length file) l)))))
+    (λ _. built_inside file at _ _ _ _ _ (dec_lt 0 (word file (at + 5))) (dec_lt 0 (word file (at + 7))) (leb-true _ _ l)))))
 
 shared_from : (a b : Section) (r : Option ℕ) → LeastShared a b r → Shared section_meaning a b r
 shared_from a b None h = h
@@ -35,14 +35,14 @@ shared_from a b (Some x) (p, (q, l)) = (p, q)
 -- a section of one cell, and a single pattern
 one_single : (p : SectionPattern) → p.count ≡ 1 → Single section_meaning p
 one_single p e is f =
-    (first_cell p is, (first_in (first_cell p is) p.step p.count p.some, λ y (t, (l, a)). let v : t ≡ 0 = omega arith in omega (arith, ap (λ (z : ℕ). p.step * z) v)))
+    (first_cell p is, (first_in _ _ _ p.some, λ y (t, (l, a)). let v : t ≡ 0 = omega arith in omega (arith, ap (λ (z : ℕ). p.step * z) v)))
 
 single_one : (p : SectionPattern) → Single section_meaning p → p.count ≡ 1
 single_one p h =
     let x = first_cell p zeros in
     let c = h zeros zeros_fill in
-    let a : x ≡ c.0 = c.1.1 x (first_in x p.step p.count p.some) in
-    let b : x + p.step * (p.count - 1) ≡ c.0 = c.1.1 (x + p.step * (p.count - 1)) (last_in x p.step p.count p.some) in
+    let a : x ≡ c.0 = c.1.1 x (first_in _ _ _ p.some) in
+    let b : x + p.step * (p.count - 1) ≡ c.0 = c.1.1 (x + p.step * (p.count - 1)) (last_in _ _ _ p.some) in
     let m = p.moves in
     let s = p.some in
     let g : 1 * (p.count - 1) ≤ p.step * (p.count - 1) = mul-le-mul_right (p.count - 1) m in
@@ -53,8 +53,8 @@ section_kept = record {
   inside = read_inside;
   alike = λ x y. tells_eqb x y (λ e. e) (λ e. e);
   lone = λ p. tells_eqb p.count 1 (one_single p) (single_one p);
-  named = λ p s is f. first_in (first_cell p is) p.step p.count p.some;
-  some = λ r. (r.first, first_in r.first r.step r.count r.some);
+  named = λ p s is f. first_in _ _ _ p.some;
+  some = λ r. (r.first, first_in _ _ _ r.some);
   member = has_tells;
   part = within_tells;
   shows = λ a b. shared_from a b (shown a b) (shown_least a b);

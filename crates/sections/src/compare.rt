@@ -18,13 +18,7 @@ impl Section {
     {
         let first = self.first as u64;
         let step = self.step as u64;
-        if cell < first {
-            return false;
-        }
-        if (cell - first) % step != 0 {
-            return false;
-        }
-        (cell - first) / step < self.count as u64
+        cell >= first && (cell - first) % step == 0 && (cell - first) / step < self.count as u64
     }
 
     // Whether each cell is one of the other section's: the first and the last are, and there are no
@@ -32,16 +26,9 @@ impl Section {
     pub(crate) fn lies_within(&self, other: &Section) -> bool
         ensures { Tells result (Included self.now other.now) }
     {
-        if !other.holds(self.first as u64) {
-            return false;
-        }
-        if !other.holds(self.last()) {
-            return false;
-        }
-        if self.count == 1 {
-            return true;
-        }
-        self.step % other.step == 0
+        other.holds(self.first as u64)
+            && other.holds(self.last())
+            && (self.count == 1 || self.step % other.step == 0)
     }
 
     // The least cell in both, where this section begins no later than the other: the other's cells
@@ -51,18 +38,12 @@ impl Section {
         ensures { LeastShared self.now other.now result }
     {
         let ahead = (other.first - self.first) as u64;
-        let taken = match least_steps(self.step, other.step, ahead) {
-            Some(steps) => steps,
-            None => return None,
-        };
+        let taken = least_steps(self.step, other.step, ahead)?;
         if taken >= other.count as u64 {
             return None;
         }
         let rise = ahead + other.step as u64 * taken;
-        if rise / self.step as u64 >= self.count as u64 {
-            return None;
-        }
-        Some(self.first as u64 + rise)
+        (rise / (self.step as u64) < self.count as u64).then_some(self.first as u64 + rise)
     }
 
     // The least cell in both, or none.

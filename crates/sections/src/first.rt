@@ -9,10 +9,10 @@ impl SectionPattern {
     pub(crate) fn first(&self, indices: &Indices) -> u32
         ensures { result ≡ first_cell self.now indices.now }
     {
-        if self.hole == 0 {
-            self.offset as u32
-        } else {
-            self.offset as u32 + self.scale as u32 * index_of(indices, self.hole) as u32
+        let offset = self.offset as u32;
+        match self.hole {
+            None => offset,
+            Some(hole) => offset + hole.scale as u32 * index_of(indices, hole.number) as u32,
         }
     }
 }

@@ -9,6 +9,6 @@ mod section;
 mod sections;
 
 pub use laws::{section_laws, worked_sections};
-pub use pattern::SectionPattern;
+pub use pattern::{Hole, SectionPattern};
 pub use section::Section;
 pub use sections::Sections;

@@ -1,24 +1,28 @@
 ghost use Rattle.std.specs.Prelude.{◌≡◌};
-ghost use Rattle.sections.specs.SectionMeaning.{hole_allowed, section_meaning};
+ghost use Rattle.sections.specs.SectionMeaning.{hole_said, section_meaning};
 ghost use Rattle.sections.specs.SectionKept.{section_kept};
 
-use crate::pattern::SectionPattern;
+use crate::pattern::{Hole, SectionPattern};
 use crate::section::Section;
 use theory::{Flaw, Indices, PatternFault, Theory};
 
 const KIND: u8 = 0x48;
 
-// The kind byte and the body of 8.
-const LENGTH: usize = 9;
+// The bytes behind the kind byte.
+const BODY: usize = 8;
 
 // How many foreach may enclose a pattern.
 const HOLES: u8 = 3;
 
-// Whether a section may have this hole and scale under so many foreach.
-fn hole_allowed(depth: u8, hole: u8, scale: u8) -> bool
-    ensures { result ≡ hole_allowed depth hole scale }
+// The hole that two bytes say under so many foreach: 0 and 0 say that there is none.
+fn hole_said(depth: u8, number: u8, scale: u8) -> Result<Option<Hole>, Flaw>
+    ensures { result ≡ hole_said depth number scale }
 {
-    hole <= depth && hole <= HOLES && (hole != 0 || scale == 0)
+    match number {
+        0 if scale == 0 => Ok(None),
+        1..=HOLES if number <= depth => Ok(Some(Hole { number, scale })),
+        _ => Err(Flaw::Limit),
+    }
 }
 
 /// The theory of sections. Its cells are numbers.
@@ -36,48 +40,29 @@ impl Theory for Sections {
     ghost kept = { section_kept };
 
     fn read(file: &[u8], place: usize, depth: u8) -> Result<(SectionPattern, usize), PatternFault> {
-        let cut = PatternFault {
-            flaw: Flaw::Cut,
-            place,
+        let fault = |flaw| PatternFault { flaw, place };
+        let kind = *file.get(place).ok_or(fault(Flaw::Cut))?;
+        if kind != KIND {
+            return Err(fault(Flaw::Kind));
+        }
+        let Some(&[number, scale, o0, o1, s0, s1, c0, c1]) = file[place + 1..].first_chunk::<BODY>()
+        else {
+            return Err(fault(Flaw::Cut));
         };
-        let limit = PatternFault {
-            flaw: Flaw::Limit,
-            place,
-        };
-        if place >= file.len() {
-            return Err(cut);
-        }
-        if file[place] != KIND {
-            return Err(PatternFault {
-                flaw: Flaw::Kind,
-                place,
-            });
-        }
-        if file.len() - place < LENGTH {
-            return Err(cut);
-        }
-        let hole = file[place + 1];
-        let scale = file[place + 2];
-        let offset = u16::from_le_bytes([file[place + 3], file[place + 4]]);
-        let step = u16::from_le_bytes([file[place + 5], file[place + 6]]);
-        let count = u16::from_le_bytes([file[place + 7], file[place + 8]]);
-        if !hole_allowed(depth, hole, scale) {
-            return Err(limit);
-        }
-        if step == 0 {
-            return Err(limit);
-        }
-        if count == 0 {
-            return Err(limit);
+        let hole = hole_said(depth, number, scale).map_err(fault)?;
+        let offset = u16::from_le_bytes([o0, o1]);
+        let step = u16::from_le_bytes([s0, s1]);
+        let count = u16::from_le_bytes([c0, c1]);
+        if step == 0 || count == 0 {
+            return Err(fault(Flaw::Limit));
         }
         let pattern = SectionPattern {
             hole,
-            scale,
             offset,
             step,
             count,
         };
-        Ok((pattern, place + LENGTH))
+        Ok((pattern, place + 1 + BODY))
     }
 
     fn fill(pattern: &SectionPattern, indices: &Indices) -> Section {
@@ -89,7 +74,7 @@ impl Theory for Sections {
     }
 
     fn same(a: &u64, b: &u64) -> bool {
-        *a == *b
+        a == b
     }
 
     fn single(pattern: &SectionPattern) -> bool {

@@ -18,20 +18,16 @@ fn section(first: u32, step: u16, count: u16) -> Section {
 
 // How many of the 1,000 sections of one step, their firsts a little apart, share a cell with that of
 // the other step from 0 on.
-fn shared(one: u16, other: u16) -> u32 {
+fn shared(one: u16, other: u16) -> usize {
     let fixed = section(0, one, 65_535);
-    let mut met = 0u32;
-    for first in 0..1_000 {
-        if Sections::share(&fixed, &section(first, other, 33_000)).is_some() {
-            met = met.saturating_add(1);
-        }
-    }
-    met
+    (0..1_000)
+        .filter(|first| Sections::share(&fixed, &section(*first, other, 33_000)).is_some())
+        .count()
 }
 
 fn main(rt: HostRuntime) -> io::Result<()> {
-    let mut pairs = 0u32;
-    let mut met = 0u32;
+    let mut pairs = 0usize;
+    let mut met = 0usize;
     for one in STEPS {
         for other in STEPS {
             pairs = pairs.saturating_add(1_000);

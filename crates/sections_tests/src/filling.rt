@@ -1,25 +1,24 @@
-use sections::{SectionPattern, Sections};
+use sections::{Hole, SectionPattern, Sections};
 use theory::Theory;
 
-// Hole, scale and offset; the three indices; the first cell.
-const FILLINGS: [(u8, u8, u16, [u8; 3], u32); 9] = [
-    (0, 0, 0, [0, 0, 0], 0),
-    (0, 0, 65535, [63, 63, 63], 65535),
-    (1, 1, 0, [5, 6, 7], 5),
-    (2, 1, 0, [5, 6, 7], 6),
-    (3, 1, 0, [5, 6, 7], 7),
-    (1, 10, 3, [0, 63, 63], 3),
-    (2, 255, 65535, [0, 63, 0], 81600),
-    (3, 255, 65535, [63, 63, 0], 65535),
-    (3, 0, 9, [63, 63, 63], 9),
+// Number and scale of the hole, if there is one, and the offset; the three indices; the first cell.
+const FILLINGS: [(Option<(u8, u8)>, u16, [u8; 3], u32); 9] = [
+    (None, 0, [0, 0, 0], 0),
+    (None, 65535, [63, 63, 63], 65535),
+    (Some((1, 1)), 0, [5, 6, 7], 5),
+    (Some((2, 1)), 0, [5, 6, 7], 6),
+    (Some((3, 1)), 0, [5, 6, 7], 7),
+    (Some((1, 10)), 3, [0, 63, 63], 3),
+    (Some((2, 255)), 65535, [0, 63, 0], 81600),
+    (Some((3, 255)), 65535, [63, 63, 0], 65535),
+    (Some((3, 0)), 9, [63, 63, 63], 9),
 ];
 
 #[test]
 fn the_first_cell_moves_with_the_index_of_its_hole(rt: HostRuntime) {
-    for (hole, scale, offset, indices, first) in FILLINGS {
+    for (hole, offset, indices, first) in FILLINGS {
         let pattern = SectionPattern {
-            hole,
-            scale,
+            hole: hole.map(|(number, scale)| Hole { number, scale }),
             offset,
             step: 65535,
             count: 1,
@@ -37,8 +36,10 @@ fn the_first_cell_moves_with_the_index_of_its_hole(rt: HostRuntime) {
 #[test]
 fn the_last_cell_is_the_largest(rt: HostRuntime) {
     let pattern = SectionPattern {
-        hole: 1,
-        scale: 255,
+        hole: Some(Hole {
+            number: 1,
+            scale: 255,
+        }),
         offset: 65535,
         step: 65535,
         count: 65535,

@@ -1,6 +1,6 @@
 use sections::Sections;
 use std::test::Fail;
-use theory::Theory;
+use theory::{Theory, Told};
 
 // The bytes of a file, the place of the pattern, the number of enclosing foreach; the number and the
 // place of the fault.
@@ -33,63 +33,71 @@ const FAULTS: [(&[u8], usize, u8, u8, usize); 16] = [
 #[test]
 fn the_first_fault_is_told(rt: HostRuntime) -> Result<(), Fail> {
     for (file, place, depth, number, at) in FAULTS {
-        match Sections::read(file, place, depth) {
-            Ok(_) => return Err(Fail::new("a faulty pattern is read")),
-            Err(fault) => {
-                assert_eq!(rt; fault.told().number, number);
-                assert_eq!(rt; fault.told().place, at);
-            }
-        }
+        let Err(fault) = Sections::read(file, place, depth) else {
+            return Err(Fail::new("a faulty pattern is read"));
+        };
+        let told = Told::from(fault);
+        assert_eq!(rt; told.number, number);
+        assert_eq!(rt; told.place, at);
     }
     Ok(())
 }
 
-// The bytes of a file, the place of the pattern, the number of enclosing foreach; hole, scale, offset,
-// step, count and end.
-const PATTERNS: [(&[u8], usize, u8, (u8, u8, u16, u16, u16), usize); 6] = [
-    (&[0x48, 0, 0, 0, 0, 1, 0, 1, 0], 0, 0, (0, 0, 0, 1, 1), 9),
+// The bytes of a file, the place of the pattern, the number of enclosing foreach; number and scale of
+// the hole, if there is one; offset, step and count; the end.
+const PATTERNS: [(&[u8], usize, u8, Option<(u8, u8)>, (u16, u16, u16), usize); 6] = [
+    (&[0x48, 0, 0, 0, 0, 1, 0, 1, 0], 0, 0, None, (0, 1, 1), 9),
     (
         &[0x48, 0, 0, 1, 2, 3, 4, 5, 6],
         0,
         3,
-        (0, 0, 513, 1027, 1541),
+        None,
+        (513, 1027, 1541),
         9,
     ),
     (
         &[0x48, 1, 255, 255, 255, 255, 255, 255, 255],
         0,
         1,
-        (1, 255, 65535, 65535, 65535),
+        Some((1, 255)),
+        (65535, 65535, 65535),
         9,
     ),
-    (&[0x48, 3, 0, 0, 0, 1, 0, 1, 0], 0, 3, (3, 0, 0, 1, 1), 9),
+    (
+        &[0x48, 3, 0, 0, 0, 1, 0, 1, 0],
+        0,
+        3,
+        Some((3, 0)),
+        (0, 1, 1),
+        9,
+    ),
     (
         &[0x48, 2, 7, 0, 0, 1, 0, 1, 0, 0xff],
         0,
         3,
-        (2, 7, 0, 1, 1),
+        Some((2, 7)),
+        (0, 1, 1),
         9,
     ),
     (
         &[0xff, 0x48, 0, 0, 9, 0, 0, 1, 1, 0],
         1,
         0,
-        (0, 0, 9, 256, 1),
+        None,
+        (9, 256, 1),
         10,
     ),
 ];
 
 #[test]
 fn patterns_are_read_low_byte_first(rt: HostRuntime) -> Result<(), Fail> {
-    for (file, place, depth, numbers, end) in PATTERNS {
-        match Sections::read(file, place, depth) {
-            Err(_) => return Err(Fail::new("a pattern is not read")),
-            Ok(read) => {
-                let (p, after) = read;
-                assert_eq!(rt; (p.hole, p.scale, p.offset, p.step, p.count), numbers);
-                assert_eq!(rt; after, end);
-            }
-        }
+    for (file, place, depth, hole, numbers, end) in PATTERNS {
+        let Ok((p, after)) = Sections::read(file, place, depth) else {
+            return Err(Fail::new("a pattern is not read"));
+        };
+        assert_eq!(rt; p.hole.map(|h| (h.number, h.scale)), hole);
+        assert_eq!(rt; (p.offset, p.step, p.count), numbers);
+        assert_eq!(rt; after, end);
     }
     Ok(())
 }

@@ -14,7 +14,7 @@ number_is : (a b : ℕ) → Some a ≡ Some b → a ≡ b
 number_is a b e = cc
 
 nothing : {P : Type 0} (strands all : List (Strand P)) (first : ℕ) → Told [] strands all first
-nothing strands all first k c s h g = let z : ◌≡◌ {A = ℕ} 0 1 = cc in absurd (omega arith)
+nothing strands all first k c s h g = absurd cc
 
 -- a block, and what stands behind all its strands
 one_more : {P : Type 0} (b : Block P) (forks depth : ℕ) (is : List ℕ) (numbers : List ℕ) (strands all : List (Strand P)) (first : ℕ) → Told numbers strands all (first + size b) →

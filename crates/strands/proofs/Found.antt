@@ -13,7 +13,7 @@ use Rattle.recipe.specs.WellFormed.{BlockLies, BlocksLie, block_count}
 use Rattle.recipe.proofs.Lying.{branches_lie, inner_lies}
 use Rattle.recipe.proofs.Parts.{cobegin_parts, foreach_parts}
 use Rattle.recipe.proofs.Reading.{block_reads}
-use Rattle.strands.specs.declared.site.Site.{Site}
+use Rattle.recipe.specs.declared.site.Site.{Site}
 use Rattle.strands.specs.ChildAt.{branch_at, child_at}
 use Rattle.strands.specs.ChildFound.{ChildFound, ForkLies}
 use Rattle.strands.specs.Children.{children, instances, starts}

@@ -21,7 +21,7 @@ row_in_row xs ys all i j (before, after, e, l) (before2, after2, e2, l2) = (
 )
 
 below : {X : Type 0} (xs : List X) (i : ℕ) (x : X) → at_number xs i ≡ Some x → i < length xs
-below [] i x h = let z : ◌≡◌ {A = ℕ} 0 1 = cc in absurd (omega arith)
+below [] i x h = absurd cc
 below (y ∷ xs) zero x h = omega arith
 below (y ∷ xs) (suc i) x h = let l = below xs i x h in omega arith
 
@@ -37,7 +37,7 @@ behind_none (stop at) = (refl, refl)
 behind_none (next s ss) = inl (refl, refl)
 
 pub behind_more : {P : Type 0} (all : Statements P) (n : ℕ) (s : Statement P) (ss : Statements P) → Behind all n (next s ss) → Behind all (n + forked s) ss
-behind_more (stop at) n s ss (z, e) = absurd (let z : ◌≡◌ {A = ℕ} 0 1 = cc in omega arith)
+behind_more (stop at) n s ss (z, e) = absurd cc
 behind_more (next t ts) n s ss (inl (z, e)) =
     let same : s ≡ t = cc in
     let rest : ss ≡ ts = cc in
@@ -54,7 +54,7 @@ module _ {P : Type 0} (forks depth : ℕ) (is : List ℕ) where
   -- the strands of a statement stand in a row behind those of the statements before it
   pub statement_row : (all : Statements P) (n : ℕ) (s : Statement P) (ss : Statements P) → Behind all n (next s ss) → InRow (strands_under s forks depth is) n (strands_in all forks depth is)
   unfolding strands_in
-  statement_row (stop at) n s ss (z, e) = absurd (let z : ◌≡◌ {A = ℕ} 0 1 = cc in omega arith)
+  statement_row (stop at) n s ss (z, e) = absurd cc
   statement_row (next t ts) n s ss (inl (z, e)) = subst (λ (i : ℕ). InRow (strands_under s forks depth is) i (strands_in (next t ts) forks depth is)) (sym z) (row_head s t ss ts e)
   statement_row (next t ts) n s ss (inr (j, z, b)) =
       row_second (strands_under s forks depth is) (strands_under t forks depth is) (strands_in ts forks depth is) n j (z ∙ ap (λ (i : ℕ). i + j) (sym (under_length t forks depth is))) (statement_row ts j s ss b)

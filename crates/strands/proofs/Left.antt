@@ -7,7 +7,7 @@ use Rattle.theory.specs.Meaning.{Meaning}
 use Rattle.recipe.specs.declared.fault.Fault.{Fault}
 use Rattle.recipe.specs.Blocks.{block_at, branches, inner, statement, statements, effects, forking}
 use Rattle.recipe.specs.Tree.{Block, Blocks, none, Statement, Statements, size, branched, forked, sizes, block, foreach}
-use Rattle.strands.specs.declared.site.Site.{Site}
+use Rattle.recipe.specs.declared.site.Site.{Site}
 use Rattle.recipe.specs.Cells.{at_number, unfilled}
 use Rattle.strands.specs.Strands.{each, strands_beside, strands_in, strands_of, strands_under}
 use Rattle.strands.proofs.Counting.{at_first, at_past, at_second, of_length, under_length}
@@ -60,12 +60,20 @@ each_at (suc n) i s k f p h l = go (λ c. each_at n (suc i) s (k - s) f p h (ome
         ∙ later c
         ∙ (λ t. at_number (f (e t)) (sym (mod-eq-sub-mod c) t))
 
+-- a number falls into the first part of a list, or into what is behind it
+module _ {X : Type 0} (head rest all : List X) (whole : all ≡ head ++ rest) (n : ℕ) (len : length head ≡ n) (left : ℕ) where
+  in_head : left < n → at_number head left ≡ at_number all left
+  in_head l = sym (at_first head rest left (omega arith)) ∙ ap (λ (xs : List X). at_number xs left) (sym whole)
+
+  behind_head : n ≤ left → at_number rest (left - n) ≡ at_number all left
+  behind_head l = ap (at_number rest) (omega arith) ∙ sym (at_second head rest left (omega arith)) ∙ ap (λ (xs : List X). at_number xs left) (sym whole)
+
 some_strand : {P : Type 0} (b : Block P) → 0 < size b
 some_strand (block at es ss) = omega arith
 
 -- what is read and what is known of it are the same
 no_both : {A B : Type 0} (g : A → B) (x : Result A Fault) (f : Fault) (a : A) → Err f ≡ over g x → x ≡ Ok a → ⊥
-no_both g x f a e h = let k : Err f ≡ over g (Ok a) = e ∙ ap (over g) h in let z : ◌≡◌ {A = ℕ} 0 1 = cc in omega arith
+no_both g x f a e h = let k : Err f ≡ over g (Ok a) = e ∙ ap (over g) h in cc
 
 image : {A B : Type 0} (g : A → B) (x : Result A Fault) (y : B) (a : A) → Ok y ≡ over g x → x ≡ Ok a → y ≡ g a
 image g x y a e h = let k : Ok y ≡ over g (Ok a) = e ∙ ap (over g) h in cc
@@ -104,20 +112,18 @@ module _ {P R C : Type 0} (m : Meaning P R C) (file : List ℕ) (site : Site) (i
   read_at at = statement m file (inner m file site.forks) site.forks site.depth at
 
   module _ (at left : ℕ) (inv : LeftIn m file site is number at left) where
-    pub statements_bad : (f : Fault) → Err f ≡ over statement_extent (read_at at) → (r : Option (Site × List ℕ)) → FoundInStatements m file site is number r
-    statements_bad f u r ss fuel e h l k =
+    -- no statement is read
+    pub statements_over : (x : Result (Option ℕ × ℕ) Fault) → x ≡ over statement_extent (read_at at) → ((n q : ℕ) → x ≡ Ok (Some n, q) → ⊥) → (r : Option (Site × List ℕ)) →
+        FoundInStatements m file site is number r
+    statements_over x u other r ss fuel e h l k =
         let w = inv ss fuel e h l k in
         let x = statements_further m file (inner m file site.forks) site.forks site.depth w.1 at w.0 e left w.2 w.4 in
-        absurd (no_both statement_extent (read_at at) f (Some x.s, x.from) u x.statement_is)
+        absurd (other (capped (forked x.s)) x.from (u ∙ ap (over statement_extent) x.statement_is))
 
-    pub statements_none : (q : ℕ) → Ok (None, q) ≡ over statement_extent (read_at at) → (r : Option (Site × List ℕ)) → FoundInStatements m file site is number r
-    statements_none q u r ss fuel e h l k =
-        let w = inv ss fuel e h l k in
-        let x = statements_further m file (inner m file site.forks) site.forks site.depth w.1 at w.0 e left w.2 w.4 in
-        let z : ◌≡◌ {A = Option ℕ} None (Some (capped (forked x.s))) = ap (λ (p : Option ℕ × ℕ). p.0) (image statement_extent (read_at at) (None, q) (Some x.s, x.from) u x.statement_is) in
-        absurd (let y : ◌≡◌ {A = ℕ} 0 1 = cc in omega arith)
+    module _ (n q : ℕ) (o : Option ℕ) (some : o ≡ Some n) (given : Ok (o, q) ≡ over statement_extent (read_at at)) where
+      u : Ok (Some n, q) ≡ over statement_extent (read_at at)
+      u = ap (λ (o : Option ℕ). Ok (o, q)) (sym some) ∙ given
 
-    module _ (n q : ℕ) (u : Ok (Some n, q) ≡ over statement_extent (read_at at)) where
       -- the statement that was measured
       measured : (s : Statement P) (from : ℕ) → read_at at ≡ Ok (Some s, from) → (n ≡ capped (forked s)) × (q ≡ from)
       measured s from d =
@@ -127,35 +133,29 @@ module _ {P R C : Type 0} (m : Meaning P R C) (file : List ℕ) (site : Site) (i
       pub statements_here : (r : Option (Site × List ℕ)) → left < n → FoundInStatement m file (here at) is left r → FoundInStatements m file site is number r
       unfolding strands_in
       statements_here r c found ss fuel e h l k =
-          let w = inv ss fuel e h l k in
-          let x = statements_further m file (inner m file site.forks) site.forks site.depth w.1 at w.0 e left w.2 w.4 in
+          let (rest, f, reads, few, low, same) = inv ss fuel e h l k in
+          let x = statements_further m file (inner m file site.forks) site.forks site.depth f at rest e left reads low in
           let d = measured x.s x.from x.statement_is in
           let z = ap sizes x.whole in
-          let lens = under_length x.s site.forks site.depth is in
-          let b = w.3 in
           found x.s x.from x.statement_is (omega arith) (omega arith)
-          ∙ ap (option_map located) (sym (at_first (strands_under x.s site.forks site.depth is) (strands_in x.rest site.forks site.depth is) left (omega arith))
-          ∙ ap (λ (y : Statements P). at_number (strands_in y site.forks site.depth is) left) (sym x.whole) ∙ w.5)
+          ∙ ap (option_map located) (in_head (strands_under x.s site.forks site.depth is) (strands_in x.rest site.forks site.depth is) (strands_in rest site.forks site.depth is)
+          (ap (λ (y : Statements P). strands_in y site.forks site.depth is) x.whole) (forked x.s) (under_length x.s site.forks site.depth is) left (omega arith) ∙ same)
 
       pub statements_again : n ≤ left → LeftIn m file site is number q (left - n)
       unfolding strands_in
       statements_again c ss fuel e h l k =
-          let w = inv ss fuel e h l k in
-          let x = statements_further m file (inner m file site.forks) site.forks site.depth w.1 at w.0 e left w.2 w.4 in
+          let (rest, f, reads, few, low, same) = inv ss fuel e h l k in
+          let x = statements_further m file (inner m file site.forks) site.forks site.depth f at rest e left reads low in
           let d = measured x.s x.from x.statement_is in
           let z = ap sizes x.whole in
-          let lens = under_length x.s site.forks site.depth is in
-          let b = w.3 in
-          let g = w.4 in
-          let same : n ≡ forked x.s = omega arith in (
+          let all : n ≡ forked x.s = omega arith in (
             x.rest,
-            w.1 - 1,
-            ap (λ (i : ℕ). statements m file (inner m file site.forks) site.forks site.depth (w.1 - 1) i) d.1 ∙ x.rest_is,
+            f - 1,
+            ap (λ (i : ℕ). statements m file (inner m file site.forks) site.forks site.depth (f - 1) i) d.1 ∙ x.rest_is,
             omega arith,
             omega arith,
-            ap (at_number (strands_in x.rest site.forks site.depth is)) (omega arith)
-                ∙ sym (at_second (strands_under x.s site.forks site.depth is) (strands_in x.rest site.forks site.depth is) left (omega arith))
-                ∙ ap (λ (y : Statements P). at_number (strands_in y site.forks site.depth is) left) (sym x.whole) ∙ w.5,
+            behind_head (strands_under x.s site.forks site.depth is) (strands_in x.rest site.forks site.depth is) (strands_in rest site.forks site.depth is)
+                (ap (λ (y : Statements P). strands_in y site.forks site.depth is) x.whole) n (under_length x.s site.forks site.depth is ∙ sym all) left c ∙ same,
           )
 
   -- blocks one after another
@@ -181,35 +181,30 @@ module _ {P R C : Type 0} (m : Meaning P R C) (file : List ℕ) (site : Site) (i
       pub branches_here : (r : Option (Site × List ℕ)) → left < y.strands → FoundInBlock m file (here at) is left r → FoundInBranches m file site is number r count
       unfolding strands_beside
       branches_here r c found bs e h l k =
-          let w = inv bs e h l k in
-          let x = branches_further m file (block_at m file site.forks) blocks site.depth at w.0 e left w.1 w.3 in
+          let (rest, reads, few, low, same) = inv bs e h l k in
+          let x = branches_further m file (block_at m file site.forks) blocks site.depth at rest e left reads low in
           let d = ap (λ (v : Extent). v.strands) (image (extent size) (block_read at) y (x.b, x.from) u x.block_is) in
           let z = ap branched x.whole in
-          let lens = of_length x.b site.forks site.depth is in
-          let b = w.2 in
           found x.b x.from x.block_is (omega arith) (omega arith)
-          ∙ ap (option_map located) (sym (at_first (strands_of x.b site.forks site.depth is) (strands_beside x.rest site.forks site.depth is) left (omega arith))
-          ∙ ap (λ (v : Blocks P). at_number (strands_beside v site.forks site.depth is) left) (sym x.whole) ∙ w.4)
+          ∙ ap (option_map located) (in_head (strands_of x.b site.forks site.depth is) (strands_beside x.rest site.forks site.depth is) (strands_beside rest site.forks site.depth is)
+          (ap (λ (v : Blocks P). strands_beside v site.forks site.depth is) x.whole) (size x.b) (of_length x.b site.forks site.depth is) left (omega arith) ∙ same)
 
-      pub branches_again : y.strands ≤ left → LeftBeside m file site is count number (blocks - 1) y.end (left - y.strands)
+      pub branches_again : (next : ℕ) → next + 1 ≡ blocks → y.strands ≤ left → LeftBeside m file site is count number next y.end (left - y.strands)
       unfolding strands_beside
-      branches_again c bs e h l k =
-          let w = inv bs e h l k in
-          let x = branches_further m file (block_at m file site.forks) blocks site.depth at w.0 e left w.1 w.3 in
+      branches_again next more c bs e h l k =
+          let (rest, reads, few, low, same) = inv bs e h l k in
+          let x = branches_further m file (block_at m file site.forks) blocks site.depth at rest e left reads low in
           let v = image (extent size) (block_read at) y (x.b, x.from) u x.block_is in
           let d = ap (λ (v : Extent). v.strands) v in
-          let q = ap (λ (v : Extent). v.end) v in
           let z = ap branched x.whole in
-          let lens = of_length x.b site.forks site.depth is in
-          let b = w.2 in
-          let g = w.3 in (
+          let one : next ≡ blocks - 1 = omega arith in
+          let all : y.strands ≡ size x.b = omega arith in (
             x.rest,
-            ap (λ (i : ℕ). branches m file (block_at m file site.forks) (blocks - 1) site.depth i) q ∙ x.rest_is,
+            (λ i. branches m file (block_at m file site.forks) (one i) site.depth (v i).end) ∙ x.rest_is,
             omega arith,
             omega arith,
-            ap (at_number (strands_beside x.rest site.forks site.depth is)) (omega arith)
-                ∙ sym (at_second (strands_of x.b site.forks site.depth is) (strands_beside x.rest site.forks site.depth is) left (omega arith))
-                ∙ ap (λ (v : Blocks P). at_number (strands_beside v site.forks site.depth is) left) (sym x.whole) ∙ w.4,
+            behind_head (strands_of x.b site.forks site.depth is) (strands_beside x.rest site.forks site.depth is) (strands_beside rest site.forks site.depth is)
+                (ap (λ (v : Blocks P). strands_beside v site.forks site.depth is) x.whole) y.strands (of_length x.b site.forks site.depth is ∙ sym all) left c ∙ same,
           )
 
   -- a fork, whose first block stands at the site
@@ -286,10 +281,10 @@ module _ {P R C : Type 0} (m : Meaning P R C) (file : List ℕ) (site : Site) (i
             ∙ ap (λ (x : Statement P). at_number (strands_under x site.forks site.depth is) number) (sym p.2))
 
   -- a statement, by the outline of its record
-  pub under_fork : (f : Fork) (q : ℕ) (r : Option (Site × List ℕ)) → Ok (ForkOutline f, q) ≡ over outlined (record_at m file Guarded site.forks site.depth site.place) →
+  pub under_fork : (o : Outline) (q : ℕ) (f : Fork) (r : Option (Site × List ℕ)) → o ≡ ForkOutline f → Ok (o, q) ≡ over outlined (record_at m file Guarded site.forks site.depth site.place) →
       FoundInFork m file (here q) is number r f → FoundUnder m file site is number r
-  under_fork f q r c found s e h l k =
-      found s site.place e (under_parts m file (inner m file site.forks) site.forks site.depth site.place s e (ForkOutline f, q) h c) l k
+  under_fork o q f r is_fork c found s e h l k =
+      found s site.place e (under_parts m file (inner m file site.forks) site.forks site.depth site.place s e (ForkOutline f, q) h (ap (λ (o : Outline). Ok (o, q)) (sym is_fork) ∙ c)) l k
 
   pub under_none : (o : Outline) (q : ℕ) → ((f : Fork) → o ≡ ForkOutline f → ⊥) → Ok (o, q) ≡ over outlined (record_at m file Guarded site.forks site.depth site.place) →
       (r : Option (Site × List ℕ)) → FoundUnder m file site is number r
@@ -303,19 +298,19 @@ module _ {P R C : Type 0} (m : Meaning P R C) (file : List ℕ) (site : Site) (i
       go EndOutline nay p = absurd p
       go OtherOutline nay p = absurd p
 
-  pub statement_when : (q : ℕ) (r : Option (Site × List ℕ)) → Ok (WhenOutline, q) ≡ over outlined (record_at m file InBlock site.forks site.depth site.place) →
+  pub statement_when : (o : Outline) (q : ℕ) (r : Option (Site × List ℕ)) → o ≡ WhenOutline → Ok (o, q) ≡ over outlined (record_at m file InBlock site.forks site.depth site.place) →
       FoundUnder m file (here q) is number r → FoundInStatement m file site is number r
   unfolding strands_under
-  statement_when q r c found s e h l k =
-      let p = statement_parts m file (inner m file site.forks) site.forks site.depth site.place s e (WhenOutline, q) h c in
+  statement_when o q r is_when c found s e h l k =
+      let p = statement_parts m file (inner m file site.forks) site.forks site.depth site.place s e (WhenOutline, q) h (ap (λ (o : Outline). Ok (o, q)) (sym is_when) ∙ c) in
       let z = ap forked p.3 in
       found p.1 e p.2 (omega arith) (omega arith)
       ∙ ap (λ (x : Statement P). option_map located (at_number (strands_under x site.forks site.depth is) number)) (sym p.3)
 
-  pub statement_fork : (f : Fork) (q : ℕ) (r : Option (Site × List ℕ)) → Ok (ForkOutline f, q) ≡ over outlined (record_at m file InBlock site.forks site.depth site.place) →
+  pub statement_fork : (o : Outline) (q : ℕ) (f : Fork) (r : Option (Site × List ℕ)) → o ≡ ForkOutline f → Ok (o, q) ≡ over outlined (record_at m file InBlock site.forks site.depth site.place) →
       FoundInFork m file (here q) is number r f → FoundInStatement m file site is number r
-  statement_fork f q r c found s e h l k =
-      found s site.place e (statement_parts m file (inner m file site.forks) site.forks site.depth site.place s e (ForkOutline f, q) h c) l k
+  statement_fork o q f r is_fork c found s e h l k =
+      found s site.place e (statement_parts m file (inner m file site.forks) site.forks site.depth site.place s e (ForkOutline f, q) h (ap (λ (o : Outline). Ok (o, q)) (sym is_fork) ∙ c)) l k
 
   pub statement_none : (o : Outline) (q : ℕ) → (o ≡ WhenOutline → ⊥) → ((f : Fork) → o ≡ ForkOutline f → ⊥) → Ok (o, q) ≡ over outlined (record_at m file InBlock site.forks site.depth site.place) →
       (r : Option (Site × List ℕ)) → FoundInStatement m file site is number r

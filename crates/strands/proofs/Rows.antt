@@ -30,7 +30,7 @@ module _ {P : Type 0} where
   Rows all = (k : ℕ) (s : Strand P) → at_number all k ≡ Some s → InRow (strands_of s.body s.forks s.depth s.indices) k all
 
   rows_none : Rows []
-  rows_none k s h = let z : ◌≡◌ {A = ℕ} 0 1 = cc in absurd (omega arith)
+  rows_none k s h = absurd cc
 
   rows_both : (xs ys : List (Strand P)) → Rows xs → Rows ys → Rows (xs ++ ys)
   rows_both xs ys f g k s h = go (either xs ys k s h)

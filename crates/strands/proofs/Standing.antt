@@ -1,5 +1,5 @@
 -- The body of each strand of a block that lies in the file lies in the file. Assumes nothing.
-use Rattle.std.proofs.Common.{◌≡◌, ℕ, zero, suc, ◌+◌, ◌-◌, ◌⊎◌, List, [], ◌∷◌, ◌++◌, length, set, Some, Ok, sym, subst, inl, inr, arith}
+use Rattle.std.proofs.Common.{◌≡◌, ℕ, zero, suc, ◌+◌, ◌-◌, ◌⊎◌, List, [], ◌∷◌, ◌++◌, length, set, Some, Ok, sym, subst, inl, inr}
 use Rattle.theory.specs.Meaning.{Kept, Meaning}
 use Rattle.recipe.specs.declared.head.Spot.{Spot}
 use Rattle.recipe.specs.declared.head.Spot.TheVariants.{Statements as InBlock, Guarded}
@@ -7,7 +7,6 @@ use Rattle.recipe.specs.Blocks.{block_at}
 use Rattle.recipe.specs.Cells.{at_number}
 use Rattle.recipe.specs.Tree.{Block, block, Statements, stop, next, Statement, simple, guarded, cobegin, foreach, Blocks, none, more}
 use Rattle.recipe.specs.WellFormed.{BlockLies, BlocksLie, StatementLies, StatementsLie}
-use Rattle.recipe.proofs.Lying.{block_lies}
 use Rattle.recipe.proofs.Once.{entry_is}
 use Rattle.recipe.proofs.Reading.{block_reads}
 use Rattle.strands.specs.Located.{place_of}
@@ -24,7 +23,7 @@ module _ {P R C : Type 0} (m : Meaning P R C) (file : List ℕ) where
   StrandsLie all = (k : ℕ) (s : Strand P) → at_number all k ≡ Some s → StrandLies s
 
   lie_none : StrandsLie []
-  lie_none k s h = let z : ◌≡◌ {A = ℕ} 0 1 = cc in absurd (omega arith)
+  lie_none k s h = absurd cc
 
   lie_both : (xs ys : List (Strand P)) → StrandsLie xs → StrandsLie ys → StrandsLie (xs ++ ys)
   lie_both xs ys f g k s h = go (either xs ys k s h)
@@ -71,8 +70,3 @@ module _ {P R C : Type 0} (m : Meaning P R C) (file : List ℕ) where
       (end : ℕ) × (block_at m file s.forks s.depth (place_of s.body) ≡ Ok (s.body, end))
   strand_reads kept b forks depth is at e l k s h =
       let (end, lies) = strands_lie b forks depth is at e l k s h in (end, block_reads m file kept s.body s.forks s.depth (place_of s.body) end lies)
-
-  -- the same of a block that was read
-  pub strand_read : Kept m → (b : Block P) (forks depth : ℕ) (is : List ℕ) (at e : ℕ) → block_at m file forks depth at ≡ Ok (b, e) → (k : ℕ) (s : Strand P) → at_number (strands_of b forks depth is) k ≡ Some s →
-      (end : ℕ) × (block_at m file s.forks s.depth (place_of s.body) ≡ Ok (s.body, end))
-  strand_read kept b forks depth is at e r = strand_reads kept b forks depth is at e (block_lies m file forks depth at b e r)

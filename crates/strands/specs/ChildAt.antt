@@ -9,7 +9,7 @@ use Rattle.recipe.specs.Blocks.{block_at}
 use Rattle.recipe.specs.Records.{mapped}
 use Rattle.recipe.specs.Extents.{capped, extent}
 use Rattle.recipe.specs.Tree.{size}
-use Rattle.strands.specs.declared.site.Site.{Site}
+use Rattle.recipe.specs.declared.site.Site.{Site}
 
 -- what follows a block that was read; none where it does not read
 abbrev pub past : (ℕ → ℕ → Option ℕ) → ℕ → Result Extent Fault → Option ℕ

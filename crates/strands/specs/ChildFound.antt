@@ -10,7 +10,7 @@ use Rattle.recipe.specs.Cells.{at_number}
 use Rattle.recipe.specs.Tree.{Statement, simple, guarded, cobegin, foreach, forked}
 use Rattle.recipe.specs.WellFormed.{BlockLies, BlocksLie, block_count}
 use Rattle.strands.specs.Children.{children}
-use Rattle.strands.specs.declared.site.Site.{Site}
+use Rattle.recipe.specs.declared.site.Site.{Site}
 
 module _ {P R C : Type 0} (m : Meaning P R C) (file : List ℕ) (fork : Fork) (site : Site) where
   -- the statement is the fork, and its blocks lie from the site on, up to an end

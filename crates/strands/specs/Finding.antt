@@ -5,7 +5,7 @@ use Rattle.theory.specs.Meaning.{Meaning}
 use Rattle.recipe.specs.declared.record.Fork.{Fork}
 use Rattle.recipe.specs.Blocks.{block_at, branches, forking, inner, statement, statements, under}
 use Rattle.recipe.specs.Tree.{Block, Blocks, Statement, Statements, branched, forked, size, sizes}
-use Rattle.strands.specs.declared.site.Site.{Site}
+use Rattle.recipe.specs.declared.site.Site.{Site}
 use Rattle.strands.specs.Located.{located}
 use Rattle.recipe.specs.Cells.{at_number}
 use Rattle.strands.specs.Strands.{strands_beside, strands_in, strands_of, strands_under}

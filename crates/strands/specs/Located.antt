@@ -7,7 +7,7 @@ use Rattle.recipe.specs.Blocks.{block_at, most_forks}
 use Rattle.recipe.specs.Cells.{unfilled, at_number}
 use Rattle.recipe.specs.Extents.{most_strands}
 use Rattle.recipe.specs.Tree.{Block, block, size}
-use Rattle.strands.specs.declared.site.Site.{Site}
+use Rattle.recipe.specs.declared.site.Site.{Site}
 use Rattle.strands.specs.Strands.{Strand, strands_of}
 
 -- the place of a block

@@ -2,8 +2,7 @@ ghost use Rattle.std.specs.Prelude.{◌≡◌};
 ghost use Rattle.strands.specs.ChildAt.{branch_at, child_at};
 ghost use Rattle.strands.specs.ChildFound.{ChildFound};
 
-use crate::site::Site;
-use recipe::{Fork, counted, read_block};
+use recipe::{Fork, Site, counted, read_block};
 use theory::Theory;
 
 // The number of the block after so many others, of which the first stands at the site and has this
@@ -13,16 +12,12 @@ fn branch<T: Theory>(file: &[u8], site: Site, first: u16, nth: u8) -> Option<u16
 {
     let mut at = site.place;
     let mut number = first;
-    let mut left = nth;
-    while left > 0 {
-        match read_block::<T>(file, site.forks, site.depth, at) {
-            Ok(extent) => {
-                number = counted(number as u32 + extent.strands as u32);
-                at = extent.end;
-            }
-            Err(_) => return None,
-        }
-        left -= 1;
+    for _ in 0..nth {
+        let Ok(extent) = read_block::<T>(file, Site { place: at, ..site }) else {
+            return None;
+        };
+        number = counted(number as u32 + extent.strands as u32);
+        at = extent.end;
     }
     Some(number)
 }
@@ -36,20 +31,13 @@ pub fn child<T: Theory>(file: &[u8], fork: Fork, site: Site, first: u16, nth: u8
     ensures among { ChildFound T.Theory.meaning file.now fork site first nth result }
 {
     match fork {
-        Fork::Cobegin(count) => {
-            if nth >= count {
+        Fork::Cobegin(count) if nth < count => branch::<T>(file, site, first, nth),
+        Fork::Foreach(count) if nth < count => {
+            let Ok(extent) = read_block::<T>(file, site) else {
                 return None;
-            }
-            branch::<T>(file, site, first, nth)
+            };
+            Some(counted(first as u32 + nth as u32 * extent.strands as u32))
         }
-        Fork::Foreach(count) => {
-            if nth >= count {
-                return None;
-            }
-            match read_block::<T>(file, site.forks, site.depth, site.place) {
-                Ok(extent) => Some(counted(first as u32 + nth as u32 * extent.strands as u32)),
-                Err(_) => None,
-            }
-        }
+        _ => None,
     }
 }

@@ -4,13 +4,13 @@ ghost use Rattle.recipe.specs.Numbers.{numbers};
 ghost use Rattle.strands.specs.Finding.{FoundInBlock, FoundInBranches, FoundInFork, FoundInStatement, FoundInStatements, FoundUnder};
 ghost use Rattle.strands.specs.Located.{strand_at};
 
-use crate::site::Site;
-use recipe::{Fork, Outline, Recipe, Spot, read_block, read_effects, read_outline, read_statement};
+use recipe::{
+    Fork, MOST_FORKS, MOST_STRANDS, Outline, Recipe, Site, Spot, read_block, read_effects,
+    read_outline, read_statement,
+};
 use theory::{Indices, Theory};
 
-const MOST_FORKS: u8 = 6;
-
-const MOST_STRANDS: u16 = 1024;
+// A block's site and its indices are two arguments below, and no struct: `locate` answers them as a pair.
 
 // The indices inside one instance of a foreach.
 fn inside(indices: Indices, depth: u8, index: u8) -> Indices
@@ -35,20 +35,16 @@ fn find_in_branches<T: Theory>(
 {
     let mut at = site.place;
     let mut left = number;
-    let mut blocks = count;
-    while blocks > 0 {
-        match read_block::<T>(file, site.forks, site.depth, at) {
-            Ok(extent) => {
-                if left < extent.strands {
-                    let block = Site { place: at, ..site };
-                    return find_in_block::<T>(file, block, indices, left);
-                }
-                left -= extent.strands;
-                at = extent.end;
-            }
-            Err(_) => return None,
+    for _ in 0..count {
+        let block = Site { place: at, ..site };
+        let Ok(extent) = read_block::<T>(file, block) else {
+            return None;
+        };
+        if left < extent.strands {
+            return find_in_block::<T>(file, block, indices, left);
         }
-        blocks -= 1;
+        left -= extent.strands;
+        at = extent.end;
     }
     None
 }
@@ -75,24 +71,22 @@ fn find_in_fork<T: Theory>(
         }
         Fork::Foreach(count) => {
             let block = Site {
-                place: site.place,
                 forks: site.forks - 1,
                 depth: site.depth + 1,
+                ..site
             };
-            match read_block::<T>(file, block.forks, block.depth, block.place) {
-                Ok(extent) => {
-                    if extent.strands == 0 {
-                        return None;
-                    }
-                    let index = number / extent.strands;
-                    if index >= count as u16 {
-                        return None;
-                    }
-                    let filled = inside(indices, site.depth, index as u8);
-                    find_in_block::<T>(file, block, filled, number % extent.strands)
-                }
-                Err(_) => None,
+            let Ok(extent) = read_block::<T>(file, block) else {
+                return None;
+            };
+            if extent.strands == 0 {
+                return None;
             }
+            let index = number / extent.strands;
+            if index >= count as u16 {
+                return None;
+            }
+            let filled = inside(indices, site.depth, index as u8);
+            find_in_block::<T>(file, block, filled, number % extent.strands)
         }
     }
 }
@@ -107,15 +101,13 @@ fn find_under<T: Theory>(
 ) -> Option<(Site, Indices)>
     ensures { FoundUnder T.Theory.meaning file.now site indices number result }
 {
-    match read_outline::<T>(file, Spot::Guarded, site.forks, site.depth, site.place) {
-        Ok((outline, end)) => match outline {
-            Outline::Fork(fork) => {
-                let behind = Site { place: end, ..site };
-                find_in_fork::<T>(file, fork, behind, indices, number)
-            }
-            _ => None,
-        },
-        Err(_) => None,
+    let Ok((outline, end)) = read_outline::<T>(file, Spot::Guarded, site) else {
+        return None;
+    };
+    let behind = Site { place: end, ..site };
+    match outline {
+        Outline::Fork(fork) => find_in_fork::<T>(file, fork, behind, indices, number),
+        _ => None,
     }
 }
 
@@ -129,16 +121,14 @@ fn find_in_statement<T: Theory>(
 ) -> Option<(Site, Indices)>
     ensures { FoundInStatement T.Theory.meaning file.now site indices number result }
 {
-    match read_outline::<T>(file, Spot::Statements, site.forks, site.depth, site.place) {
-        Ok((outline, end)) => {
-            let behind = Site { place: end, ..site };
-            match outline {
-                Outline::When => find_under::<T>(file, behind, indices, number),
-                Outline::Fork(fork) => find_in_fork::<T>(file, fork, behind, indices, number),
-                _ => None,
-            }
-        }
-        Err(_) => None,
+    let Ok((outline, end)) = read_outline::<T>(file, Spot::Statements, site) else {
+        return None;
+    };
+    let behind = Site { place: end, ..site };
+    match outline {
+        Outline::When => find_under::<T>(file, behind, indices, number),
+        Outline::Fork(fork) => find_in_fork::<T>(file, fork, behind, indices, number),
+        _ => None,
     }
 }
 
@@ -154,22 +144,15 @@ fn find_in_statements<T: Theory>(
 {
     let mut at = site.place;
     let mut left = number;
-    loop {
-        match read_statement::<T>(file, site.forks, site.depth, at) {
-            Ok((found, end)) => match found {
-                Some(strands) => {
-                    if left < strands {
-                        let here = Site { place: at, ..site };
-                        return find_in_statement::<T>(file, here, indices, left);
-                    }
-                    left -= strands;
-                    at = end;
-                }
-                None => return None,
-            },
-            Err(_) => return None,
+    while let Ok((Some(strands), end)) = read_statement::<T>(file, Site { place: at, ..site }) {
+        if left < strands {
+            let here = Site { place: at, ..site };
+            return find_in_statement::<T>(file, here, indices, left);
         }
+        left -= strands;
+        at = end;
     }
+    None
 }
 
 // The strand of a number in the block at the site.
@@ -185,13 +168,11 @@ fn find_in_block<T: Theory>(
     if number == 0 {
         return Some((site, indices));
     }
-    match read_effects::<T>(file, site.depth, site.place) {
-        Ok(end) => {
-            let behind = Site { place: end, ..site };
-            find_in_statements::<T>(file, behind, indices, number - 1)
-        }
-        Err(_) => None,
-    }
+    let Ok(end) = read_effects::<T>(file, site) else {
+        return None;
+    };
+    let behind = Site { place: end, ..site };
+    find_in_statements::<T>(file, behind, indices, number - 1)
 }
 
 /// The place of the block of a strand, and the three indices that fill its patterns; none where the
@@ -205,16 +186,14 @@ pub fn locate<T: Theory>(recipe: &Recipe<'_>, number: usize) -> Option<(Site, In
         forks: MOST_FORKS,
         depth: 0,
     };
-    match read_block::<T>(file, root.forks, root.depth, root.place) {
-        Ok(extent) => {
-            if extent.strands > MOST_STRANDS {
-                return None;
-            }
-            if number >= extent.strands as usize {
-                return None;
-            }
-            find_in_block::<T>(file, root, [0, 0, 0], number as u16)
-        }
-        Err(_) => None,
+    let Ok(extent) = read_block::<T>(file, root) else {
+        return None;
+    };
+    if extent.strands > MOST_STRANDS {
+        return None;
     }
+    if number >= extent.strands as usize {
+        return None;
+    }
+    find_in_block::<T>(file, root, [0, 0, 0], number as u16)
 }

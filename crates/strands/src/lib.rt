@@ -5,9 +5,8 @@
 mod children;
 mod finding;
 mod laws;
-mod site;
 
 pub use children::child;
 pub use finding::locate;
 pub use laws::strand_laws;
-pub use site::Site;
+pub use recipe::Site;

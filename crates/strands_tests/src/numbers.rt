@@ -45,9 +45,7 @@ fn check_strand(
     };
     let (site, found) = strand;
     assert_eq!(rt; site.place, place);
-    assert_eq!(rt; found[0], indices[0]);
-    assert_eq!(rt; found[1], indices[1]);
-    assert_eq!(rt; found[2], indices[2]);
+    assert_eq!(rt; found, indices);
     Ok(())
 }
 

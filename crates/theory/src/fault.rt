@@ -1,10 +1,7 @@
-ghost use Rattle.std.specs.Prelude.{◌≡◌};
-ghost use Rattle.theory.specs.Fault.{flaw_number, pattern_told};
-
 use crate::told::{Layer, Told};
 
 /// What is wrong with a record of a pattern.
-#[derive(Clone, Copy)]
+#[derive(Clone, Copy, Debug, PartialEq, Eq)]
 pub enum Flaw {
     /// The kind byte or the body runs past the end of the file.
     Cut,
@@ -16,12 +13,15 @@ pub enum Flaw {
     TooMany,
 }
 
-impl Flaw {
-    /// The number under which a fault of this sort is told.
-    pub fn number(&self) -> u8
-        ensures { result ≡ flaw_number self.now }
-    {
-        match self {
+/// The number under which a fault of this sort is told.
+impl From<Flaw> for u8 {
+    ghost use Rattle.std.specs.Prelude.{◌≡◌};
+    ghost use Rattle.theory.specs.Fault.{flaw_number};
+
+    ghost from_gives = { λ flaw number. number ≡ flaw_number flaw };
+
+    fn from(flaw: Flaw) -> u8 {
+        match flaw {
             Flaw::Cut => 2,
             Flaw::Kind => 3,
             Flaw::Limit => 4,
@@ -31,21 +31,24 @@ impl Flaw {
 }
 
 /// A fault inside a pattern: what is wrong, and the place of the record.
-#[derive(Clone, Copy)]
+#[derive(Clone, Copy, Debug, PartialEq, Eq)]
 pub struct PatternFault {
     pub flaw: Flaw,
     pub place: usize,
 }
 
-impl PatternFault {
-    /// What the fault tells.
-    pub fn told(&self) -> Told
-        ensures { result ≡ pattern_told self.now }
-    {
+/// What the fault tells.
+impl From<PatternFault> for Told {
+    ghost use Rattle.std.specs.Prelude.{◌≡◌};
+    ghost use Rattle.theory.specs.Fault.{pattern_told};
+
+    ghost from_gives = { λ fault told. told ≡ pattern_told fault };
+
+    fn from(fault: PatternFault) -> Told {
         Told {
-            number: self.flaw.number(),
+            number: fault.flaw.into(),
             layer: Layer::Theory,
-            place: self.place,
+            place: fault.place,
             strand: 0,
         }
     }

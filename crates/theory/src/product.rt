@@ -6,7 +6,7 @@ use crate::indices::Indices;
 use crate::theory::Theory;
 
 /// Two patterns, two regions or two cells by value; over two theories it is a theory itself.
-#[derive(Clone, Copy, Drop)]
+#[derive(Clone, Copy, Debug, Drop, PartialEq, Eq)]
 pub struct Product<L, R> {
     pub left: L,
     pub right: R,

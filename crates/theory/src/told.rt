@@ -4,7 +4,7 @@ ghost use Rattle.theory.specs.Line.{told_line};
 use std::fmt;
 
 /// Who tells a fault.
-#[derive(Clone, Copy)]
+#[derive(Clone, Copy, Debug, PartialEq, Eq)]
 pub enum Layer {
     /// A theory, inside a pattern.
     Theory = 1,
@@ -16,7 +16,7 @@ pub enum Layer {
 
 /// What a fault tells: which refusal it is, who tells it, the place of the record at fault and the
 /// strand at fault. Place and strand are 0 where there is none.
-#[derive(Clone, Copy)]
+#[derive(Clone, Copy, Debug, PartialEq, Eq)]
 pub struct Told {
     pub number: u8,
     pub layer: Layer,
@@ -29,9 +29,12 @@ impl fmt::Display for Told {
     ghost output = { λ t. Some (told_line t) };
 
     fn fmt<W: fmt::Write>(&self, f: &mut fmt::Formatter<W>) -> fmt::Result {
-        let number = self.number;
-        let place = self.place;
-        let strand = self.strand;
+        let Told {
+            number,
+            place,
+            strand,
+            ..
+        } = self;
         write!(f, "refused {number} at {place} strand {strand}")
     }
 }

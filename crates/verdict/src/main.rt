@@ -7,8 +7,10 @@ use std::io::Read;
 fn run(rt: &HostRuntime) -> anyhow::Result<()> {
     let mut input = Vec::new(rt.alloc());
     rt.stdin().take(LONGEST_INPUT).read_to_end(&mut input)?;
-    let judgement = judge(&input);
-    println!(rt; "{judgement}")?;
+    match judge(&input) {
+        Ok(judgement) => println!(rt; "{judgement}")?,
+        Err(refusal) => println!(rt; "{refusal}")?,
+    }
     Ok(())
 }
 

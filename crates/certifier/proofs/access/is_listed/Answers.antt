@@ -1,14 +1,11 @@
-use Rattle.std.proofs.Common.{sym, ◌∙◌}
-use Rattle.certifier.proofs.Listing.{listed_here, listed_later, listed_never}
+use Rattle.std.proofs.Common.{rules, tests, sym, ◌∙◌}
+use Rattle.std.proofs.lemmas.Iterator.{YieldsList-from_slice}
+use Rattle.std.proofs.lemmas.Iterator.Search.{any_from_yields_List}
+use Rattle.certifier.proofs.Listing.{listed_any}
 use Rattle.certifier.proofs.access.is_listed.Goals as goal
 
-pub returns-then-same : goal.returns-then-same
-returns-then-same g c =
-    sym (listed_here g.T.Theory.meaning (g.T.Theory.meaning.point c.args.cell.now) c.args.cells.now c.loop-other.other-index c.other-item.result c.loop-other-test.true c.other-item.is (sym c.same.ensures ∙ c.if-same.true)) ∙ c.loop-other.invariant
-
-pub loop-other-preserved : goal.loop-other-preserved
-loop-other-preserved g c =
-    sym (listed_later g.T.Theory.meaning (g.T.Theory.meaning.point c.args.cell.now) c.args.cells.now c.loop-other.other-index c.other-item.result c.loop-other-test.true c.other-item.is (sym c.same.ensures ∙ c.if-same.false)) ∙ c.loop-other.invariant
-
 pub returns : goal.returns
-returns g c = sym (listed_never g.T.Theory.meaning (g.T.Theory.meaning.point c.args.cell.now) c.args.cells.now c.loop-other.other-index c.loop-other-test.false) ∙ c.loop-other.invariant
+returns g c =
+    let m = g.T.Theory.meaning in
+    any_from_yields_List (λ d. m.same (m.point c.args.cell.now) (m.point d)) _ _ _ c.any.ensures.ran (YieldsList-from_slice c.args.cells.now cc) (λ x b q k. search (rules, tests))
+    ∙ sym (listed_any m (m.point c.args.cell.now) c.args.cells.now)

@@ -1,20 +1,11 @@
-use Rattle.std.proofs.Common.{sym, ◌∙◌}
+use Rattle.std.proofs.Common.{rules, tests}
+use Rattle.std.proofs.lemmas.Iterator.{YieldsList-from_slice}
 use Rattle.certifier.specs.Faults.{overlaps}
-use Rattle.certifier.proofs.Scanning.{hit, missed, over, overlap_first, overlap_none}
+use Rattle.certifier.specs.Refusals.{refusal_of}
+use Rattle.certifier.proofs.Scanning.{first_from_find_map}
 use Rattle.certifier.proofs.family.clash.Goals as goal
-
-pub returns-in-Some : goal.returns-in-Some
-returns-in-Some g c =
-    sym (hit (overlaps g.T.Theory.meaning c.args.number c.args.other c.args.effect.now) c.args.effects.now c.loop-theirs.theirs-index c.theirs-item.result _ c.loop-theirs-test.true c.theirs-item.is
-    (overlap_first g.T.Theory.meaning c.args.number c.args.other c.args.effect.now c.theirs-item.result _ _ (sym c.in-Some.ensures)))
-    ∙ c.loop-theirs.invariant
-
-pub loop-theirs-preserved : goal.loop-theirs-preserved
-loop-theirs-preserved g c =
-    sym (missed (overlaps g.T.Theory.meaning c.args.number c.args.other c.args.effect.now) c.args.effects.now c.loop-theirs.theirs-index c.theirs-item.result c.loop-theirs-test.true c.theirs-item.is
-    (overlap_none g.T.Theory.meaning c.args.number c.args.other c.args.effect.now c.theirs-item.result _ (sym c.in_default.ensures)))
-    ∙ c.loop-theirs.invariant
 
 pub returns : goal.returns
 returns g c =
-    sym (over (overlaps g.T.Theory.meaning c.args.number c.args.other c.args.effect.now) c.args.effects.now c.loop-theirs.theirs-index c.loop-theirs-test.false) ∙ c.loop-theirs.invariant
+    let m = g.T.Theory.meaning in
+    first_from_find_map _ (λ y. y.now) _ (overlaps m c.args.number c.args.other.now.number c.args.effect.now) (refusal_of m) _ (λ x r q k. search (rules, tests)) _ _ (YieldsList-from_slice _ cc) _ c.find_map.ensures.runs

@@ -21,14 +21,11 @@ abbrev pub decreases-find_in_fork : goal.decreases-find_in_fork
 decreases-find_in_fork g l = 6 * l.site.forks + 1
 
 -- what is left to search holds the strand under what is left of its number
-abbrev pub invariant-find_in_branches-loop-blocks : goal.invariant-find_in_branches-loop-blocks
-invariant-find_in_branches-loop-blocks g l = LeftBeside g.T.Theory.meaning l.file l.site l.indices l.count l.number l.blocks l.at l.left
+abbrev pub invariant-find_in_branches-loop : goal.invariant-find_in_branches-loop
+invariant-find_in_branches-loop g l = LeftBeside g.T.Theory.meaning l.file l.site l.indices l.count l.number (l.count - l.counter) l.at l.left
 
-abbrev pub decreases-find_in_branches-loop-blocks : goal.decreases-find_in_branches-loop-blocks
-decreases-find_in_branches-loop-blocks g l = l.blocks
+abbrev pub invariant-find_in_statements-loop-strands : goal.invariant-find_in_statements-loop-strands
+invariant-find_in_statements-loop-strands g l = LeftIn g.T.Theory.meaning l.file l.site l.indices l.number l.at l.left
 
-abbrev pub invariant-find_in_statements-loop-found : goal.invariant-find_in_statements-loop-found
-invariant-find_in_statements-loop-found g l = LeftIn g.T.Theory.meaning l.file l.site l.indices l.number l.at l.left
-
-abbrev pub decreases-find_in_statements-loop-found : goal.decreases-find_in_statements-loop-found
-decreases-find_in_statements-loop-found g l = length l.file - l.at
+abbrev pub decreases-find_in_statements-loop-strands : goal.decreases-find_in_statements-loop-strands
+decreases-find_in_statements-loop-strands g l = length l.file - l.at

@@ -1,8 +1,8 @@
 use Rattle.strands.proofs.Left as law
 use Rattle.strands.proofs.finding.locate.Goals as goal
 
-pub returns-in-Err : goal.returns-in-Err
-returns-in-Err g c = law.moved g.T.Theory.meaning c.file-file.result.now _ c.root.result _ c.args.number _ c.file-file.ensures c.root.ensures (law.root_bad g.T.Theory.meaning c.file-file.result.now c.root.result c.args.number _ c.in-Err.ensures.is)
+pub returns-in_default : goal.returns-in_default
+returns-in_default g c = law.moved g.T.Theory.meaning c.file-file.result.now _ c.root.result _ c.args.number _ c.file-file.ensures c.root.ensures (law.root_bad g.T.Theory.meaning c.file-file.result.now c.root.result c.args.number _ c.in_default.ensures.is)
 
 pub returns-then-extent-gt-MOST_STRANDS : goal.returns-then-extent-gt-MOST_STRANDS
 returns-then-extent-gt-MOST_STRANDS g c =
@@ -14,7 +14,7 @@ returns-then-number-extent g c =
     law.moved g.T.Theory.meaning c.file-file.result.now _ c.root.result _ c.args.number _ c.file-file.ensures c.root.ensures
     (law.root_past g.T.Theory.meaning c.file-file.result.now c.root.result c.args.number c.in-Ok.extent c.in-Ok.ensures.is c.if-extent-gt-MOST_STRANDS.false c.if-number-extent.true)
 
-pub returns-else-number-extent : goal.returns-else-number-extent
-returns-else-number-extent g c =
+pub returns : goal.returns
+returns g c =
     law.moved g.T.Theory.meaning c.file-file.result.now _ c.root.result _ c.args.number _ c.file-file.ensures c.root.ensures
     (law.root_found g.T.Theory.meaning c.file-file.result.now c.root.result c.args.number c.in-Ok.extent c.in-Ok.ensures.is c.find_in_block.result c.if-extent-gt-MOST_STRANDS.false c.if-number-extent.false c.find_in_block.ensures)

@@ -1,26 +1,14 @@
-use Rattle.sections.proofs.Sharing.{none_ever, none_second, none_first, found}
+use Rattle.sections.proofs.Sharing.{none_ever, none_second, found}
 use Rattle.sections.proofs.section.Section.least_shared_ahead.Goals as goal
 
-pub returns-in-None : goal.returns-in-None
-returns-in-None c =
-    let a = c.args.self.now in
-    let b = c.args.other.now in
-    none_ever a.first a.step a.count b.first b.step b.count c.requires c.in-None.ensures
+pub returns-in_err-taken : goal.returns-in_err-taken
+returns-in_err-taken c =
+    rw c.from_residual.ensures (none_ever _ _ _ _ _ _ c.requires c.in_err-taken.ensures)
 
 pub returns-then-taken-other : goal.returns-then-taken-other
 returns-then-taken-other c =
-    let a = c.args.self.now in
-    let b = c.args.other.now in
-    none_second a.first a.step a.count b.first b.step b.count c.requires c.in-Some.steps c.in-Some.ensures c.if-taken-other.true
-
-pub returns-then-rise-self : goal.returns-then-rise-self
-returns-then-rise-self c =
-    let a = c.args.self.now in
-    let b = c.args.other.now in
-    none_first a.first a.step a.count b.first b.step b.count c.requires c.in-Some.steps c.in-Some.ensures a.moves c.if-rise-self.true
+    none_second _ _ _ _ _ _ c.requires _ c.in_ok-taken.ensures c.if-taken-other.true
 
 pub returns : goal.returns
 returns c =
-    let a = c.args.self.now in
-    let b = c.args.other.now in
-    found a.first a.step a.count b.first b.step b.count c.requires c.in-Some.steps c.in-Some.ensures c.if-taken-other.false c.if-rise-self.false
+    rw c.then_some.ensures (found _ _ _ _ _ _ c.requires _ c.in_ok-taken.ensures c.args.self.now.moves c.if-taken-other.false)

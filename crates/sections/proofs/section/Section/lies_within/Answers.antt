@@ -1,15 +1,34 @@
-use Rattle.std.proofs.Common.{ℕ, ◌%◌, ◌<◌, subst, arith}
-use Rattle.theory.specs.Telling.{tells_eqb}
-use Rattle.sections.specs.Cells.{In}
-use Rattle.sections.specs.Cell.{every_by_step, step_divides}
+use Rattle.std.proofs.Common.{◌<◌, ◌≡◌, true, arith}
+use Rattle.theory.specs.Telling.{tells_eqb, told_yes, yes_told}
+use Rattle.sections.specs.Cells.{In, last_cell}
+use Rattle.sections.specs.Cell.{every_by_step, step_divides, first_in, last_in}
 use Rattle.sections.proofs.section.Section.lies_within.Goals as goal
+use Rattle.sections.proofs.section.Section.lies_within.Goals.{then-holds, else-holds}
 
-pub returns : goal.returns
-returns c =
+pub returns-else-self-eq1 : goal.returns-else-self-eq1
+returns-else-self-eq1 c =
     let a = c.args.self.now in
     let b = c.args.other.now in
     let more : 1 < a.count = let p = a.some in let n = c.if-self-eq1.false in omega arith in
-    tells_eqb (a.step % b.step) 0
-    (λ e. every_by_step a.first a.step a.count b.first b.step b.count b.moves e c.if-not-holds.ensures
-    (subst (λ (x : ℕ). In b x) c.last.ensures c.if-not-holds-2.ensures))
-    (step_divides a.first a.step a.count b.first b.step b.count b.moves more)
+    elim c.if-holds.branch [
+      | then-holds w ↦
+          let e : w.holds-then-holds.result ≡ true = cc in
+          let l = told_yes _ (In b w.last.result) w.holds-then-holds.ensures e in
+          tells_eqb _ _
+          (λ e. every_by_step _ _ _ _ _ _ b.moves e w.if-holds.ensures (rw w.last.ensures at l))
+          (step_divides _ _ _ _ _ _ b.moves more)
+      | else-holds w ↦ absurd cc
+    ]
+
+pub returns-else-holds-2 : goal.returns-else-holds-2
+returns-else-holds-2 c =
+    let a = c.args.self.now in
+    let b = c.args.other.now in
+    rw c.if-holds-2.false
+    (λ h. elim c.if-holds.branch [
+      | then-holds w ↦
+          let l : In b w.last.result = rw w.last.ensures (h (last_cell a) (last_in _ _ _ a.some)) in
+          let e = yes_told _ (In b w.last.result) w.holds-then-holds.ensures l in
+          absurd cc
+      | else-holds w ↦ w.if-holds.ensures (h a.first (first_in _ _ _ a.some))
+    ])

@@ -15,4 +15,4 @@ pub returns : goal.returns
 returns c =
     let a = c.args.a.now in
     let b = c.args.b.now in
-    itself c.least_shared.result ∙ least_one (In a) (In b) c.least_shared.result (shown a b) c.least_shared.ensures (shown_least a b)
+    itself _ ∙ least_one (In a) (In b) _ (shown a b) c.least_shared.ensures (shown_least a b)
