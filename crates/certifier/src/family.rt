@@ -24,11 +24,7 @@ fn exceeding<T: Theory>(
     ensures { refused T.Theory.meaning result ≡ first (child_faults T.Theory.meaning own.now (child_of child.now)) }
 {
     child.effects.iter().find_map(|effect| {
-        if effect_covered::<T>(own, effect) {
-            None
-        } else {
-            Some(Refusal::Exceeding(effect.at(child.number)))
-        }
+        (!effect_covered::<T>(own, effect)).then(|| Refusal::Exceeding(effect.at(child.number)))
     })
 }
 
@@ -76,6 +72,7 @@ fn clash_among<T: Theory>(children: &[Child<T::Region>]) -> Option<Refusal<T::Ce
     let [child, rest @ ..] = children else {
         return None;
     };
+    // `or_else` would call this function in a closure, which would need a contract and a measure.
     match clash_with_rest::<T>(child, rest) {
         None => clash_among::<T>(rest),
         found => found,

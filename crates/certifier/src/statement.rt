@@ -11,7 +11,7 @@ use recipe::{Fork, Outline, Recipe, Site, Spot, read_outline, read_record, read_
 use std::alloc::{AllocError, Global};
 use theory::Theory;
 
-// How many children a fork has.
+// How many children a fork has: a part of it, and no conversion.
 fn count_children(fork: Fork) -> u8
     ensures { result ≡ fork_count fork }
 {
@@ -82,10 +82,13 @@ impl<T: Theory> Certifying<'_, T> {
             place: at,
             ..self.strand.site
         };
-        match read_outline::<T>(self.recipe.file(), Spot::Statements, site) {
-            Ok((Outline::When, end)) => self.bare_fault(Spot::Guarded, end, child),
-            Ok(_) => self.bare_fault(Spot::Statements, at, child),
-            Err(_) => Ok(None),
+        let Ok((outline, end)) = read_outline::<T>(self.recipe.file(), Spot::Statements, site)
+        else {
+            return Ok(None);
+        };
+        match outline {
+            Outline::When => self.bare_fault(Spot::Guarded, end, child),
+            _ => self.bare_fault(Spot::Statements, at, child),
         }
     }
 

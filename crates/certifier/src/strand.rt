@@ -1,4 +1,5 @@
-ghost use Rattle.std.specs.Prelude.{◌≡◌, ◌<◌, ◌≤◌, length, IfOk, IfSome};
+ghost use Rattle.std.specs.Prelude.{◌≡◌, IfOk, IfSome};
+ghost use Rattle.recipe.specs.Extents.{EndsBehind};
 ghost use Rattle.recipe.specs.declared.head.Spot.TheVariants.{Effects};
 ghost use Rattle.recipe.specs.Records.{record_at};
 ghost use Rattle.certifier.specs.Walks.{ChildRead, ChildrenRead, Counted, EffectsFound, effect_found};
@@ -26,7 +27,7 @@ fn read_effect<T: Theory>(
     place: usize,
 ) -> Option<(Effect<T::Region>, usize)>
     ensures is { result ≡ effect_found T.Theory.meaning strand.now.indices place (record_at T.Theory.meaning file.now Effects 0 strand.now.site.depth place) }
-    ensures whole { IfSome result (λ x. (place < x.1) × (x.1 ≤ length file.now)) }
+    ensures whole { IfSome result (λ x. EndsBehind file.now place x.1) }
 {
     let site = Site {
         place,

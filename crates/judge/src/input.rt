@@ -5,13 +5,13 @@ use crate::judgement::Judgement;
 use crate::refusal::Refusal;
 use crate::theories::TheoryName;
 use paths::Paths;
-use recipe::Recipe;
+use recipe::{LONGEST_FILE, Recipe};
 use sections::Sections;
 use theory::{Product, Theory};
 
 /// No more bytes of an input need to be read than these: a theory byte, the longest file, and one
 /// byte by which a longer file shows.
-pub const LONGEST_INPUT: u64 = 16_386;
+pub const LONGEST_INPUT: u64 = LONGEST_FILE as u64 + 2;
 
 // Judges a file under a theory.
 fn judge_by<T: Theory>(file: &[u8]) -> Result<Judgement, Refusal>
@@ -24,8 +24,8 @@ fn judge_by<T: Theory>(file: &[u8]) -> Result<Judgement, Refusal>
     })
 }
 
-// Judges a file under the theory of that name. Each theory is a type, which no value can hold, so the
-// name picks it here.
+// Judges a file under the theory of that name.
+// Each theory is a type, which no value can hold, so the name picks it here.
 #[tactic(auto, unfolding(crate::specs::Judged::judged_named))]
 fn judge_named(name: TheoryName, file: &[u8]) -> Result<Judgement, Refusal>
     ensures { result ≡ judged_named name file.now }

@@ -21,6 +21,7 @@ impl From<Refusal> for Told {
     ghost from_gives = { λ refusal told. told ≡ refusal_told refusal };
 
     fn from(refusal: Refusal) -> Told {
+        // The only place of number 20: elsewhere a refusal is a variant, and a number is for printing.
         match refusal {
             Refusal::UnknownTheory => Told {
                 number: 20,

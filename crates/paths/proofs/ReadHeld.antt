@@ -4,7 +4,7 @@ use Rattle.std.proofs.lemmas.List.{length-map}
 use Rattle.theory.specs.declared.fault.Flaw.{Flaw}
 use Rattle.theory.specs.declared.fault.PatternFault.{PatternFault}
 use Rattle.theory.specs.Meaning.{Filling, index_of}
-use Rattle.theory.specs.Reading.{Bytes, byte, word}
+use Rattle.theory.specs.Reading.{Bytes, byte, four_bytes, word}
 use Rattle.theory.proofs.Holes.{index_small}
 use Rattle.rpl.specs.Inclusion.{FitElement, FitPath}
 use Rattle.paths.specs.declared.pattern.FilledIndex.{FilledIndex}
@@ -15,7 +15,7 @@ use Rattle.paths.specs.declared.kind.Kind.TheVariants as kind
 use Rattle.paths.specs.Filling.{Pattern, path_filled, piece_filled}
 use Rattle.paths.specs.Kinds.{kind_of}
 use Rattle.paths.specs.PathLaws.{Held}
-use Rattle.paths.specs.Reading.{added, after, allowed_hole, blank, four_bytes, of_kind, path_reads, read_on, record_at, whole}
+use Rattle.paths.specs.Reading.{added, after, allowed_hole, blank, of_kind, path_reads, read_on, record_at, whole}
 
 -- a piece fits, and so a pattern, and what a record says
 abbrev FitPiece : Piece → Type 0

@@ -4,7 +4,8 @@ use Rattle.theory.specs.declared.fault.Flaw.TheVariants.{TooMany}
 use Rattle.theory.specs.declared.fault.PatternFault.{PatternFault}
 use Rattle.paths.specs.declared.pattern.Piece.{Piece}
 use Rattle.paths.specs.Filling.{Pattern}
-use Rattle.paths.specs.Reading.{added, after, fault_at, path_reads, read_on, record_at}
+use Rattle.paths.specs.Reading.{added, after, path_reads, read_on, record_at}
+use Rattle.theory.specs.Reading.{flawed}
 
 abbrev whole : List Piece → Pattern
 whole xs = record { items = xs }
@@ -18,7 +19,7 @@ module _ (file : List ℕ) (depth : ℕ) (p : Pattern) (at : ℕ) where
   read_end zero next r n e = ap (after p _) (rw n at e)
   read_end (suc left) next r n e = ap (after p _) (rw n at e)
 
-  pub read_full : (left next : ℕ) (r : Option Piece) (x : Piece) → left ≡ 0 → r ≡ Some x → Ok (r, next) ≡ record_at file depth at → Err (fault_at TooMany at) ≡ read_on left file depth p at
+  pub read_full : (left next : ℕ) (r : Option Piece) (x : Piece) → left ≡ 0 → r ≡ Some x → Ok (r, next) ≡ record_at file depth at → Err (flawed TooMany at) ≡ read_on left file depth p at
   read_full zero next r x z n e = ap (after p _) (rw n at e)
   read_full (suc left) next r x z n e = absurd (omega arith)
 

@@ -5,14 +5,14 @@ use Rattle.theory.specs.declared.fault.Flaw.{Flaw}
 use Rattle.theory.specs.declared.fault.Flaw.TheVariants.{Cut, Limit, TooMany}
 use Rattle.theory.specs.declared.fault.PatternFault.{PatternFault}
 use Rattle.theory.specs.Meaning.{Inside}
-use Rattle.theory.specs.Reading.{byte}
+use Rattle.theory.specs.Reading.{byte, flawed}
 use Rattle.theory.proofs.Inside.{fault_inside, later_inside, provided_inside}
 use Rattle.paths.specs.declared.pattern.Piece.{Piece}
 use Rattle.paths.specs.declared.kind.Kind.{Kind}
 use Rattle.paths.specs.declared.kind.Kind.TheVariants as kind
 use Rattle.paths.specs.Filling.{Pattern}
 use Rattle.paths.specs.Kinds.{kind_of}
-use Rattle.paths.specs.Reading.{added, after, allowed_hole, blank, fault_at, of_kind, path_reads, read_on, record_at, whole}
+use Rattle.paths.specs.Reading.{added, after, allowed_hole, blank, of_kind, path_reads, read_on, record_at, whole}
 
 module _ (file : List ℕ) where
   whole_inside : (at n : ℕ) (r : Result (Option Piece × ℕ) PatternFault) → at ≤ length file → (at + 1 + n ≤ length file → Inside file at r) → Inside file at (whole file at n r)
@@ -40,7 +40,7 @@ module _ (file : List ℕ) where
 
   on_inside : (left depth : ℕ) (p : Pattern) (at : ℕ) → at ≤ length file → Inside file at (read_on left file depth p at)
   on_inside zero depth p at h =
-      after_inside at p (λ x next. Err (fault_at TooMany at)) (record_at file depth at) (record_inside depth at h) (λ x next i j. fault_inside file at TooMany h)
+      after_inside at p (λ x next. Err (flawed TooMany at)) (record_at file depth at) (record_inside depth at h) (λ x next i j. fault_inside file at TooMany h)
   on_inside (suc left) depth p at h =
       after_inside at p (λ x next. read_on left file depth (added p x) next) (record_at file depth at) (record_inside depth at h)
       (λ x next i j. later_inside file at next (read_on left file depth (added p x) next) i (on_inside left depth (added p x) next j))

@@ -3,12 +3,12 @@
 -- place    the number of bytes before
 -- depth    the number of enclosing foreach
 -- record   a kind byte, then a body: the next element of the path, or none at its end
-use Rattle.std.specs.Prelude.{ℕ, zero, suc, ◌+◌, ◌*◌, Bool, ◌&&◌, List, [], ◌∷◌, ◌++◌, length, Some, None, Option, Ok, Err, Result, nat_le, nat_lt}
+use Rattle.std.specs.Prelude.{ℕ, zero, suc, ◌+◌, Bool, ◌&&◌, List, [], ◌∷◌, ◌++◌, length, Some, None, Option, Ok, Err, Result, nat_le, nat_lt}
 use Rattle.theory.specs.declared.fault.Flaw.{Flaw}
 use Rattle.theory.specs.declared.fault.Flaw.TheVariants.{Cut, Limit, TooMany}
 use Rattle.theory.specs.declared.fault.PatternFault.{PatternFault}
 use Rattle.theory.specs.Meaning.{hole_count}
-use Rattle.theory.specs.Reading.{byte, provided, word}
+use Rattle.theory.specs.Reading.{byte, flawed, four_bytes, provided, word}
 use Rattle.rpl.specs.declared.element.Part.TheVariants.{Name, Index, AnyIndex}
 use Rattle.rpl.specs.declared.element.Element.TheVariants.{Star, One}
 use Rattle.paths.specs.declared.pattern.Piece.{Piece}
@@ -17,13 +17,6 @@ use Rattle.paths.specs.declared.kind.Kind.{Kind}
 use Rattle.paths.specs.declared.kind.Kind.TheVariants as kind
 use Rattle.paths.specs.Filling.{Pattern}
 use Rattle.paths.specs.Kinds.{kind_of}
-
-abbrev pub fault_at : Flaw → ℕ → PatternFault
-fault_at flaw at = record { flaw = flaw; place = at }
-
--- the number of four bytes, low byte first
-abbrev pub four_bytes : List ℕ → ℕ → ℕ
-four_bytes file at = word file at + 65536 * word file (at + 2)
 
 -- a record with a body of n bytes, unless the file ends before
 abbrev pub whole : List ℕ → ℕ → ℕ → Result (Option Piece × ℕ) PatternFault → Result (Option Piece × ℕ) PatternFault
@@ -53,7 +46,7 @@ of_kind (Ok kind.Index) file depth at = index_at file at
 of_kind (Ok kind.Star) file depth at = Ok (Some (Fixed Star), at + 1)
 of_kind (Ok kind.AnyIndex) file depth at = Ok (Some (Fixed (One AnyIndex)), at + 1)
 of_kind (Ok kind.FilledIndex) file depth at = filled_at file depth at
-of_kind (Err flaw) file depth at = Err (fault_at flaw at)
+of_kind (Err flaw) file depth at = Err (flawed flaw at)
 
 abbrev pub record_at : List ℕ → ℕ → ℕ → Result (Option Piece × ℕ) PatternFault
 record_at file depth at = provided (nat_lt at (length file)) Cut at (of_kind (kind_of (byte file at)) file depth at)
@@ -73,7 +66,7 @@ after p more (Err f) = Err f
 
 -- reading goes on behind a pattern that may have some elements more
 abbrev pub read_on : ℕ → List ℕ → ℕ → Pattern → ℕ → Result (Pattern × ℕ) PatternFault
-read_on zero file depth p at = after p (λ x next. Err (fault_at TooMany at)) (record_at file depth at)
+read_on zero file depth p at = after p (λ x next. Err (flawed TooMany at)) (record_at file depth at)
 read_on (suc left) file depth p at = after p (λ x next. read_on left file depth (added p x) next) (record_at file depth at)
 
 unfoldable pub path_reads : List ℕ → ℕ → ℕ → Result (Pattern × ℕ) PatternFault

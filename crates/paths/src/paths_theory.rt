@@ -6,7 +6,7 @@ use crate::pattern::Pattern;
 use crate::reading::read_pattern;
 use crate::region::Region;
 use rpl::Cell;
-use theory::{Indices, PatternFault, Theory};
+use theory::{Indices, NO_INDICES, PatternFault, Theory};
 
 /// The theory of paths. A cell is a list of names and indices, a region a path that stands for cells.
 pub struct Paths;
@@ -36,7 +36,7 @@ impl Theory for Paths {
 
     // Whether a pattern is single does not hang on the indices.
     fn single(pattern: &Pattern) -> bool {
-        rpl::single(&filled(pattern, &[0, 0, 0]))
+        rpl::single(&filled(pattern, &NO_INDICES))
     }
 
     fn only(pattern: &Pattern, indices: &Indices) -> Cell {

@@ -1,19 +1,25 @@
-ghost use Rattle.std.specs.Prelude.{◌≡◌, ◌<◌, length};
-ghost use Rattle.paths.specs.Reading.{allowed_hole, fault_at, filled_at, index_at, name_at, path_reads, record_at};
+ghost use Rattle.std.specs.Prelude.{◌≡◌, ◌+◌, ◌<◌, ◌≤◌, length, drop, IfOk, IfErr};
+ghost use Rattle.std.specs.Array.{IsFirstChunk};
+ghost use Rattle.theory.specs.declared.fault.Flaw.TheVariants.{Cut};
+ghost use Rattle.paths.specs.Reading.{allowed_hole, filled_at, index_at, name_at, path_reads, record_at};
+ghost use Rattle.theory.specs.Reading.{flawed};
 
 use crate::kind::Kind;
 use crate::pattern::{FilledIndex, Pattern, Piece};
 use rpl::{Element, Part};
-use theory::{Flaw, PatternFault};
+use theory::{Flaw, HOLES, PatternFault};
 
 // The next element of a path, or none at its end, and the place behind the record.
 type Read = Result<(Option<Piece>, usize), PatternFault>;
 
-// The fault with this flaw in the record at a place.
-fn fault(flaw: Flaw, place: usize) -> PatternFault
-    ensures { result ≡ fault_at flaw place }
+// The N bytes behind the kind byte of the record at a place.
+fn read_bytes<const N: usize>(file: &[u8], place: usize) -> Result<[u8; N], PatternFault>
+    requires { place < length file.now }
+    ensures whole { IfOk result (λ bytes. (place + 1 + N ≤ length file.now) × IsFirstChunk (drop (place + 1) file.now) bytes N) }
+    ensures cut { IfErr result (λ e. (e ≡ flawed Cut place) × (length file.now < place + 1 + N)) }
 {
-    PatternFault { flaw, place }
+    let bytes = file[place + 1..].first_chunk().ok_or(Flaw::Cut.at(place))?;
+    Ok(*bytes)
 }
 
 // A name, of two bytes, low byte first.
@@ -21,10 +27,7 @@ fn read_name(file: &[u8], place: usize) -> Read
     requires { place < length file.now }
     ensures { result ≡ name_at file.now place }
 {
-    let bytes = file[place + 1..]
-        .first_chunk()
-        .ok_or(fault(Flaw::Cut, place))?;
-    let name = u16::from_le_bytes(*bytes);
+    let name = u16::from_le_bytes(read_bytes(file, place)?);
     Ok((
         Some(Piece::Fixed(Element::One(Part::Name(name)))),
         place + 3,
@@ -36,10 +39,7 @@ fn read_index(file: &[u8], place: usize) -> Read
     requires { place < length file.now }
     ensures { result ≡ index_at file.now place }
 {
-    let bytes = file[place + 1..]
-        .first_chunk()
-        .ok_or(fault(Flaw::Cut, place))?;
-    let index = u32::from_le_bytes(*bytes);
+    let index = u32::from_le_bytes(read_bytes(file, place)?);
     Ok((
         Some(Piece::Fixed(Element::One(Part::Index(index)))),
         place + 5,
@@ -50,7 +50,7 @@ fn read_index(file: &[u8], place: usize) -> Read
 fn allowed(hole: u8, depth: u8) -> bool
     ensures { result ≡ allowed_hole depth hole }
 {
-    1 <= hole && hole <= depth && hole <= 3
+    1 <= hole && hole <= depth && hole <= HOLES
 }
 
 // A filled index: hole and scale of a byte each, offset of two, low byte first.
@@ -58,11 +58,9 @@ fn read_filled(file: &[u8], place: usize, depth: u8) -> Read
     requires { place < length file.now }
     ensures { result ≡ filled_at file.now depth place }
 {
-    let &[hole, scale, low, high] = file[place + 1..]
-        .first_chunk::<4>()
-        .ok_or(fault(Flaw::Cut, place))?;
+    let [hole, scale, low, high] = read_bytes::<4>(file, place)?;
     if !allowed(hole, depth) {
-        return Err(fault(Flaw::Limit, place));
+        return Err(Flaw::Limit.at(place));
     }
     let offset = u16::from_le_bytes([low, high]);
     Ok((
@@ -79,8 +77,8 @@ fn read_filled(file: &[u8], place: usize, depth: u8) -> Read
 fn read_record(file: &[u8], place: usize, depth: u8) -> Read
     ensures { result ≡ record_at file.now depth place }
 {
-    let byte = file.get(place).ok_or(fault(Flaw::Cut, place))?;
-    let kind = Kind::try_from(*byte).map_err(|flaw| fault(flaw, place))?;
+    let byte = file.get(place).ok_or(Flaw::Cut.at(place))?;
+    let kind = Kind::try_from(*byte).map_err(|flaw| flaw.at(place))?;
     match kind {
         Kind::End => Ok((None, place + 1)),
         Kind::Name => read_name(file, place),
@@ -107,7 +105,7 @@ pub(crate) fn read_pattern(
             return Ok((pattern, next));
         };
         if pattern.is_full() {
-            return Err(fault(Flaw::TooMany, place));
+            return Err(Flaw::TooMany.at(place));
         }
         pattern.push(piece);
         place = next;

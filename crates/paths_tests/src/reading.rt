@@ -14,6 +14,7 @@ fn reads(rt: &impl Abort, file: &[u8], depth: u8, elements: usize, end: usize) -
 }
 
 // The pattern is refused with this number at this place.
+// Each crate of tests has its own: a crate for a few lines would be no plainer.
 fn refuses(rt: &impl Abort, file: &[u8], depth: u8, number: u8, place: usize) -> Result<(), Fail> {
     let Err(fault) = Paths::read(file, 0, depth) else {
         return Err(Fail::new("read"));

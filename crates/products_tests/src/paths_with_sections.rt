@@ -25,14 +25,11 @@ fn pattern(
     file: &[u8],
     depth: u8,
 ) -> Result<Product<Pattern, SectionPattern>, Fail> {
-    match Strip::read(file, 0, depth) {
-        Err(_) => Err(Fail::new("a product is not read")),
-        Ok(read) => {
-            let (pattern, end) = read;
-            assert_eq!(rt; end, file.len());
-            Ok(pattern)
-        }
-    }
+    let Ok((pattern, end)) = Strip::read(file, 0, depth) else {
+        return Err(Fail::new("a product is not read"));
+    };
+    assert_eq!(rt; end, file.len());
+    Ok(pattern)
 }
 
 // Its region outside every foreach.
@@ -51,15 +48,14 @@ fn single_where_both_sides_are(rt: HostRuntime) -> Result<(), Fail> {
 }
 
 // The pattern is refused with this number at this place.
+// Each crate of tests has its own: a crate for a few lines would be no plainer.
 fn refuses(rt: &impl Abort, file: &[u8], number: u8, place: usize) -> Result<(), Fail> {
-    match Strip::read(file, 0, 0) {
-        Ok(_) => Err(Fail::new("a faulty product is read")),
-        Err(fault) => {
-            let told = Told::from(fault);
-            assert!(rt; told.number == number && told.place == place);
-            Ok(())
-        },
-    }
+    let Err(fault) = Strip::read(file, 0, 0) else {
+        return Err(Fail::new("a faulty product is read"));
+    };
+    let told = Told::from(fault);
+    assert!(rt; told.number == number && told.place == place);
+    Ok(())
 }
 
 #[test]
@@ -89,13 +85,11 @@ fn the_shown_cell_is_a_pair(rt: HostRuntime) -> Result<(), Fail> {
     let cell = region(&rt, CELL)?;
     assert!(rt; Strip::within(&cell, &sixes) && Strip::within(&cell, &tens));
     assert!(rt; !Strip::within(&sixes, &cell));
-    match Strip::share(&sixes, &tens) {
-        Some(shown) => {
-            assert!(rt; Strip::has(&cell, &shown));
-            Ok(())
-        },
-        None => Err(Fail::new("two products share no cell")),
-    }
+    let Some(shown) = Strip::share(&sixes, &tens) else {
+        return Err(Fail::new("two products share no cell"));
+    };
+    assert!(rt; Strip::has(&cell, &shown));
+    Ok(())
 }
 
 #[test]

@@ -24,33 +24,28 @@ const FILE: [u8; 18] = [
 
 #[test]
 fn the_right_pattern_follows_the_left_one(rt: HostRuntime) -> Result<(), Fail> {
-    match Grid::read(&FILE, 0, 1) {
-        Err(_) => return Err(Fail::new("a product is not read")),
-        Ok(read) => {
-            let (pattern, end) = read;
-            assert_eq!(rt; end, 18);
-            assert!(rt; Grid::single(&pattern));
-            let cell = Grid::only(&pattern, &[21, 0, 0]);
-            assert_eq!(rt; cell.left, 4);
-            assert_eq!(rt; cell.right, 42);
-            let region = Grid::fill(&pattern, &[21, 0, 0]);
-            assert!(rt; Grid::has(&region, &cell));
-        }
-    }
+    let Ok((pattern, end)) = Grid::read(&FILE, 0, 1) else {
+        return Err(Fail::new("a product is not read"));
+    };
+    assert_eq!(rt; end, 18);
+    assert!(rt; Grid::single(&pattern));
+    let cell = Grid::only(&pattern, &[21, 0, 0]);
+    assert_eq!(rt; cell.left, 4);
+    assert_eq!(rt; cell.right, 42);
+    let region = Grid::fill(&pattern, &[21, 0, 0]);
+    assert!(rt; Grid::has(&region, &cell));
     Ok(())
 }
 
 #[test]
 fn a_fault_of_the_right_side_has_its_own_place(rt: HostRuntime) -> Result<(), Fail> {
-    match Grid::read(&FILE, 0, 0) {
-        Ok(_) => Err(Fail::new("a hole outside every foreach is read")),
-        Err(fault) => {
-            let told = Told::from(fault);
-            assert_eq!(rt; told.number, 4);
-            assert_eq!(rt; told.place, 9);
-            Ok(())
-        }
-    }
+    let Err(fault) = Grid::read(&FILE, 0, 0) else {
+        return Err(Fail::new("a hole outside every foreach is read"));
+    };
+    let told = Told::from(fault);
+    assert_eq!(rt; told.number, 4);
+    assert_eq!(rt; told.place, 9);
+    Ok(())
 }
 
 #[test]
@@ -73,12 +68,10 @@ fn both_sides_are_asked(rt: HostRuntime) -> Result<(), Fail> {
     assert!(rt; Grid::same(&edge, &edge));
     assert!(rt; !Grid::same(&edge, &corner));
     assert!(rt; Grid::share(&small, &square(9, 2)).is_none());
-    match Grid::share(&large, &small) {
-        None => Err(Fail::new("nested squares share no cell")),
-        Some(cell) => {
-            assert_eq!(rt; cell.left, 4);
-            assert_eq!(rt; cell.right, 4);
-            Ok(())
-        }
-    }
+    let Some(cell) = Grid::share(&large, &small) else {
+        return Err(Fail::new("nested squares share no cell"));
+    };
+    assert_eq!(rt; cell.left, 4);
+    assert_eq!(rt; cell.right, 4);
+    Ok(())
 }

@@ -1,9 +1,9 @@
 -- What the records of a file read as, under a theory. Assumes nothing.
-use Rattle.std.specs.Prelude.{ℕ, ◌+◌, ◌*◌, cond, List, Ok, Err, Result}
+use Rattle.std.specs.Prelude.{ℕ, ◌+◌, cond, List, Ok, Err, Result}
 use Rattle.theory.specs.declared.fault.Flaw.TheVariants.{TooMany}
 use Rattle.theory.specs.declared.fault.PatternFault.{PatternFault}
 use Rattle.theory.specs.Meaning.{Meaning}
-use Rattle.theory.specs.Reading.{byte, word}
+use Rattle.theory.specs.Reading.{byte, four_bytes}
 use Rattle.recipe.specs.declared.fault.Fault.{Fault}
 use Rattle.recipe.specs.declared.fault.Fault.TheVariants.{Pattern as InPattern, NotSingle}
 use Rattle.recipe.specs.declared.head.Spot.{Spot}
@@ -28,10 +28,6 @@ abbrev pub in_pattern : {X : Type 0} → Result X PatternFault → Result X Faul
 in_pattern (Ok x) = Ok x
 in_pattern (Err f) = Err (InPattern f)
 
--- the number of four bytes from a place on, low byte first
-abbrev pub wide : List ℕ → ℕ → ℕ
-wide file at = word file at + 65536 * word file (at + 2)
-
 module _ {P R C : Type 0} (m : Meaning P R C) (file : List ℕ) where
   -- the pattern at a place, and its end
   abbrev pub pattern : (depth at : ℕ) → Result (P × ℕ) Fault
@@ -54,7 +50,7 @@ module _ {P R C : Type 0} (m : Meaning P R C) (file : List ℕ) where
   body Writes depth at = then (pattern depth (at + 1)) (made_of (effect WritesMode))
   body Load depth at = then (single_pattern at depth (at + 2)) (made_of (λ p. operation (load (byte file (at + 1)) p)))
   body Store depth at = then (single_pattern at depth (at + 2)) (made_of (λ p. operation (store (byte file (at + 1)) p)))
-  body Set depth at = Ok (operation (set (byte file (at + 1)) (wide file (at + 2))), at + 6)
+  body Set depth at = Ok (operation (set (byte file (at + 1)) (four_bytes file (at + 2))), at + 6)
   body Add depth at = Ok (operation (add (byte file (at + 1)) (byte file (at + 2))), at + 3)
   body Index depth at = Ok (operation (index (byte file (at + 1)) (byte file (at + 2))), at + 3)
   body When depth at = Ok (when (byte file (at + 1)), at + 2)

@@ -8,12 +8,9 @@ use crate::fault::Fault;
 use crate::head::{Spot, begins};
 use crate::read::read_record;
 use crate::site::Site;
-use theory::{Flaw, Indices, Theory};
+use theory::{Flaw, NO_INDICES, Theory};
 
 const MOST_CELLS: u8 = 128;
-
-// No foreach encloses a Cell.
-const UNFILLED: Indices = [0, 0, 0];
 
 /// The cell of the Cell at a place, and its end.
 #[tactic(auto, unfolding(crate::specs::Cells::cell_at))]
@@ -30,7 +27,8 @@ pub fn read_cell<T: Theory>(file: &[u8], place: usize) -> Result<(T::Cell, usize
     let Some(pattern) = entry.cell_pattern() else {
         return Err(Fault::Record(Flaw::Kind, place));
     };
-    Ok((T::only(pattern, &UNFILLED), end))
+    // No foreach encloses a Cell.
+    Ok((T::only(pattern, &NO_INDICES), end))
 }
 
 /// Where a cell stands among the first so many cells of a file, counted from 0.
@@ -39,6 +37,7 @@ pub(crate) fn find_cell<T: Theory>(file: &[u8], count: u8, cell: &T::Cell) -> Op
     ensures { result ≡ position T.Theory.meaning (T.Theory.meaning.point cell.now) (listed T.Theory.meaning file.now count 0) }
 {
     let mut at = 0;
+    // The loop's number is the answer.
     for k in 0..count {
         let (other, end) = read_cell::<T>(file, at).ok()?;
         if T::same(cell, &other) {
@@ -56,6 +55,7 @@ pub(crate) fn read_cells<T: Theory>(file: &[u8]) -> Result<(u8, usize), Fault>
     ensures whole { IfOk result (λ x. x.1 ≤ length file.now) }
 {
     let mut at = 0;
+    // The loop's number is the count of those before.
     for count in 0..MOST_CELLS {
         if !begins(file, Spot::Cells, at) {
             return Ok((count, at));

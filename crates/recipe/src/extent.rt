@@ -1,6 +1,8 @@
 ghost use Rattle.std.specs.Prelude.{◌≡◌};
 ghost use Rattle.recipe.specs.Extents.{capped, one_after, repeated};
 
+use crate::recipe::MOST_STRANDS;
+
 /// Where a part of a file ends, and how many strands it has, counted up to one more than the 1,024 that
 /// a recipe may have.
 #[derive(Clone, Copy, Debug, PartialEq, Eq)]
@@ -13,7 +15,7 @@ pub struct Extent {
 pub fn counted(strands: u32) -> u16
     ensures { result ≡ capped strands }
 {
-    strands.min(1025) as u16
+    strands.min(MOST_STRANDS as u32 + 1) as u16
 }
 
 impl Extent {

@@ -22,7 +22,7 @@ pub enum Fault {
     TooManyStrands,
 }
 
-// What the reader tells.
+// What the reader tells: a constructor, since two values are no conversion.
 fn reader_told(number: u8, place: usize) -> Told
     ensures { result ≡ reader_told number place }
 {
@@ -54,6 +54,7 @@ impl From<Fault> for Told {
     ghost from_gives = { λ fault told. told ≡ fault_told fault };
 
     fn from(fault: Fault) -> Told {
+        // The only place of these numbers: elsewhere a fault is a variant, and a number is for printing.
         match fault {
             Fault::TooLong => reader_told(1, 0),
             Fault::Record(flaw, place) => reader_told(flaw.into(), place),

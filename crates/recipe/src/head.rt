@@ -5,7 +5,7 @@ ghost use Rattle.recipe.specs.Heads.{begins as begins_at, head};
 use crate::fault::Fault;
 use crate::kinds::{Kind, body_length};
 use crate::site::Site;
-use theory::Flaw;
+use theory::{Flaw, HOLES};
 
 /// Where a record stands, which decides the kinds that are allowed.
 #[derive(Clone, Copy, Debug, PartialEq, Eq)]
@@ -43,7 +43,7 @@ impl Kind {
     {
         match self {
             Kind::Cobegin => site.forks > 0,
-            Kind::Foreach => site.forks > 0 && site.depth < 3,
+            Kind::Foreach => site.forks > 0 && site.depth < HOLES,
             _ => true,
         }
     }
@@ -73,20 +73,17 @@ pub(crate) fn read_head(file: &[u8], spot: Spot, site: Site) -> Result<Kind, Fau
     ensures whole { IfOk result (λ k. site.place + 1 + body_of k ≤ length file.now) }
 {
     let place = site.place;
-    if place >= file.len() {
-        return Err(Fault::Record(Flaw::Cut, place));
-    }
-    let Ok(kind) = Kind::try_from(file[place]) else {
-        return Err(Fault::Record(Flaw::Kind, place));
-    };
+    let fault = |flaw| Fault::Record(flaw, place);
+    let byte = *file.get(place).ok_or(fault(Flaw::Cut))?;
+    let kind = Kind::try_from(byte).map_err(|_| fault(Flaw::Kind))?;
     if !spot.allows(kind) {
-        return Err(Fault::Record(Flaw::Kind, place));
+        return Err(fault(Flaw::Kind));
     }
-    if file.len() - place <= body_length(file[place]) as usize {
-        return Err(Fault::Record(Flaw::Cut, place));
+    if file.len() - place <= body_length(byte) as usize {
+        return Err(fault(Flaw::Cut));
     }
     if !in_limits(file, kind, site) {
-        return Err(Fault::Record(Flaw::Limit, place));
+        return Err(fault(Flaw::Limit));
     }
     Ok(kind)
 }
@@ -96,11 +93,5 @@ pub(crate) fn read_head(file: &[u8], spot: Spot, site: Site) -> Result<Kind, Fau
 pub fn begins(file: &[u8], spot: Spot, place: usize) -> bool
     ensures { result ≡ begins_at file.now spot place }
 {
-    if place >= file.len() {
-        return false;
-    }
-    match Kind::try_from(file[place]) {
-        Ok(kind) => spot.allows(kind),
-        Err(_) => false,
-    }
+    file.get(place).is_some_and(|byte| Kind::try_from(*byte).is_ok_and(|kind| spot.allows(kind)))
 }

@@ -23,6 +23,6 @@ pub use kinds::{Kind, UnknownKind, body_length};
 pub use laws::recipe_laws;
 pub use outline::{Outline, read_outline};
 pub use read::read_record;
-pub use recipe::{MOST_FORKS, MOST_STRANDS, Recipe};
+pub use recipe::{LONGEST_FILE, MOST_FORKS, MOST_STRANDS, Recipe};
 pub use record::{Fork, Mode, Operation, Pattern, Record};
 pub use site::Site;

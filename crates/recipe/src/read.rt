@@ -1,7 +1,8 @@
 ghost use Rattle.std.specs.Prelude.{◌≡◌, ◌+◌, ◌≤◌, length, IfOk};
 ghost use Rattle.recipe.specs.Extents.{EndsBehind};
 ghost use Rattle.recipe.specs.Kinds.{body_of};
-ghost use Rattle.recipe.specs.Records.{body, pattern, record_at, single_pattern, wide};
+ghost use Rattle.recipe.specs.Records.{body, pattern, record_at, single_pattern};
+ghost use Rattle.theory.specs.Reading.{four_bytes};
 ghost use Rattle.recipe.specs.Said.{Borrows, part, patterned, told};
 
 use crate::fault::Fault;
@@ -11,7 +12,9 @@ use crate::record::{Fork, Mode, Operation, Pattern, Record};
 use crate::site::Site;
 use theory::{Flaw, Theory};
 
-// The pattern at a place, and its end.
+// Each reader says in a clause where it ends: a type for such ends would have to hold the file.
+
+// The pattern at a place, and its end: by depth and place, as the theory reads it.
 fn read_pattern<'a, T: Theory>(
     file: &'a [u8],
     depth: u8,
@@ -49,14 +52,9 @@ fn read_single<'a, T: Theory>(
 // The number of four bytes, low byte first.
 fn four_bytes(file: &[u8], place: usize) -> u32
     requires { place + 4 ≤ length file.now }
-    ensures { result ≡ wide file.now place }
+    ensures { result ≡ four_bytes file.now place }
 {
-    u32::from_le_bytes([
-        file[place],
-        file[place + 1],
-        file[place + 2],
-        file[place + 3],
-    ])
+    u32::from_le_bytes(*file[place..].first_chunk().unwrap())
 }
 
 // The record of a kind whose head is in order, and its end.
@@ -72,7 +70,7 @@ fn read_body<'a, T: Theory>(
 {
     let place = site.place;
     let depth = site.depth;
-    // An arm for each kind, though two may share a call: a helper would be longer than what they share.
+    // An arm for each kind, though two may share a call: a function for both would be longer.
     match kind {
         Kind::Cell => {
             let (pattern, end) = read_single::<T>(file, place, depth, place + 1)?;

@@ -11,7 +11,8 @@ use crate::fault::Fault;
 use crate::site::Site;
 use theory::Theory;
 
-const LONGEST_FILE: usize = 16_384;
+/// How many bytes a file may have.
+pub const LONGEST_FILE: usize = 16_384;
 
 /// How many forks may be nested.
 pub const MOST_FORKS: u8 = 6;

@@ -1,4 +1,4 @@
-use crate::said::{Part, Said, all_built_say};
+use crate::said::{END, Part, Said, all_built_say};
 use paths::Paths;
 use std::test::Fail;
 
@@ -11,8 +11,6 @@ const FOREACH: &[u8] = &[0x31, 1];
 const COBEGIN: &[u8] = &[0x30, 2];
 
 const WHEN: &[u8] = &[0x25, 0];
-
-const END: &[u8] = &[0x3F];
 
 const EFFECTS: [(&[Part], Said); 8] = [
     (&[(READS, 16), (END, 1)], Said::Recipe(0, 1)),

@@ -7,6 +7,7 @@ use std::test::Fail;
 // A file that lists so many cells from 0 on, and then has these bytes.
 fn listed(heap: Global, count: u8, rest: &[u8]) -> Result<Vec<u8>, Fail> {
     let mut file = Vec::new(heap);
+    // The loop's number is the cell.
     for cell in 0..count {
         file.extend_from_slice(&[0x01, 0x48, 0, 0, cell, 0, 1, 0, 1, 0])?;
     }

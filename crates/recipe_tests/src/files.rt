@@ -1,4 +1,4 @@
-use crate::said::{Part, Said, all_built_say, says};
+use crate::said::{END, Part, Said, all_built_say, says};
 use paths::Paths;
 use recipe::Recipe;
 use sections::Sections;
@@ -8,9 +8,8 @@ const ADD: &[u8] = &[0x23, 0, 0];
 
 const LESS: &[u8] = &[0x26, 0, 0, 0];
 
-const END: &[u8] = &[0x3F];
-
 // Three cells, and three strands that each store their index into their cell.
+// The tests of strands have the same file: a crate for one constant would be no plainer.
 #[rattlefmt::skip]
 const WORKED: [u8; 68] = [
     0x01, 0x48, 0, 0, 0, 0, 1, 0, 1, 0,

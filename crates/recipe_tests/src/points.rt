@@ -52,6 +52,7 @@ fn expected(byte: u8, place: usize, cell: bool, effect: bool, when: bool, end: S
 #[test]
 fn every_byte_at_every_point(rt: HostRuntime) -> Result<(), Fail> {
     for (head, cell, effect, when, end) in POINTS {
+        // The loop's number is the byte that is tried.
         for byte in 0..=255 {
             let mut file = head.to_vec(rt.alloc())?;
             file.push(byte)?;

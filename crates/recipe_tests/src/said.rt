@@ -4,6 +4,8 @@ use std::process::Abort;
 use std::test::Fail;
 use theory::{Layer, Theory, Told};
 
+pub(crate) const END: &[u8] = &[0x3F];
+
 // What is said of a file.
 #[derive(Clone, Copy, PartialEq, Debug)]
 pub(crate) enum Said {

@@ -1,8 +1,6 @@
-use crate::said::{Part, Said, all_built_say, says};
+use crate::said::{END, Part, Said, all_built_say, says};
 use paths::Paths;
 use std::test::Fail;
-
-const END: &[u8] = &[0x3F];
 
 const COUNTS: [(&[Part], Said); 21] = [
     (&[(&[0x30, 0], 1), (END, 1)], Said::Record(4, 0)),

@@ -37,11 +37,8 @@ impl Letter for Element {
         match letter {
             Element::Star => false,
             Element::One(other) => match (part, other) {
-                (Part::Name(a), Part::Name(b)) => *a == *b,
-                (Part::Index(a), Part::Index(b)) => *a == *b,
                 (Part::AnyIndex, Part::Index(_)) => true,
-                (Part::AnyIndex, Part::AnyIndex) => true,
-                _ => false,
+                _ => part == other,
             },
         }
     }

@@ -4,15 +4,13 @@ ghost use Rattle.sections.specs.SectionKept.{section_kept};
 
 use crate::pattern::{Hole, SectionPattern};
 use crate::section::Section;
-use theory::{Flaw, Indices, PatternFault, Theory};
+use theory::{Flaw, HOLES, Indices, PatternFault, Theory};
 
+// The only kind of record here: an enum of one variant would say no more.
 const KIND: u8 = 0x48;
 
 // The bytes behind the kind byte.
 const BODY: usize = 8;
-
-// How many foreach may enclose a pattern.
-const HOLES: u8 = 3;
 
 // The hole that two bytes say under so many foreach: 0 and 0 say that there is none.
 fn hole_said(depth: u8, number: u8, scale: u8) -> Result<Option<Hole>, Flaw>
@@ -40,21 +38,20 @@ impl Theory for Sections {
     ghost kept = { section_kept };
 
     fn read(file: &[u8], place: usize, depth: u8) -> Result<(SectionPattern, usize), PatternFault> {
-        let fault = |flaw| PatternFault { flaw, place };
-        let kind = *file.get(place).ok_or(fault(Flaw::Cut))?;
+        let kind = *file.get(place).ok_or(Flaw::Cut.at(place))?;
         if kind != KIND {
-            return Err(fault(Flaw::Kind));
+            return Err(Flaw::Kind.at(place));
         }
         let Some(&[number, scale, o0, o1, s0, s1, c0, c1]) = file[place + 1..].first_chunk::<BODY>()
         else {
-            return Err(fault(Flaw::Cut));
+            return Err(Flaw::Cut.at(place));
         };
-        let hole = hole_said(depth, number, scale).map_err(fault)?;
+        let hole = hole_said(depth, number, scale).map_err(|flaw| flaw.at(place))?;
         let offset = u16::from_le_bytes([o0, o1]);
         let step = u16::from_le_bytes([s0, s1]);
         let count = u16::from_le_bytes([c0, c1]);
         if step == 0 || count == 0 {
-            return Err(fault(Flaw::Limit));
+            return Err(Flaw::Limit.at(place));
         }
         let pattern = SectionPattern {
             hole,

@@ -8,6 +8,7 @@ use theory::Theory;
 
 const STEPS: [u16; 4] = [65_521, 65_519, 65_497, 65_479];
 
+// As in the tests of sections: a crate for a few lines would be no plainer.
 fn section(first: u32, step: u16, count: u16) -> Section {
     Section {
         first,

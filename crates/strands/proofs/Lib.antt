@@ -1,3 +1,4 @@
+pub mod Answered
 pub mod ChildLaws
 pub mod Childhood
 pub mod Counting

@@ -13,9 +13,7 @@ fn branch<T: Theory>(file: &[u8], site: Site, first: u16, nth: u8) -> Option<u16
     let mut at = site.place;
     let mut number = first;
     for _ in 0..nth {
-        let Ok(extent) = read_block::<T>(file, Site { place: at, ..site }) else {
-            return None;
-        };
+        let extent = read_block::<T>(file, Site { place: at, ..site }).ok()?;
         number = counted(number as u32 + extent.strands as u32);
         at = extent.end;
     }
@@ -33,9 +31,7 @@ pub fn child<T: Theory>(file: &[u8], fork: Fork, site: Site, first: u16, nth: u8
     match fork {
         Fork::Cobegin(count) if nth < count => branch::<T>(file, site, first, nth),
         Fork::Foreach(count) if nth < count => {
-            let Ok(extent) = read_block::<T>(file, site) else {
-                return None;
-            };
+            let extent = read_block::<T>(file, site).ok()?;
             Some(counted(first as u32 + nth as u32 * extent.strands as u32))
         }
         _ => None,

@@ -8,7 +8,7 @@ use recipe::{
     Fork, MOST_FORKS, MOST_STRANDS, Outline, Recipe, Site, Spot, read_block, read_effects,
     read_outline, read_statement,
 };
-use theory::{Indices, Theory};
+use theory::{Indices, NO_INDICES, Theory};
 
 // A block's site and its indices are two arguments below, and no struct: `locate` answers them as a pair.
 
@@ -37,9 +37,7 @@ fn find_in_branches<T: Theory>(
     let mut left = number;
     for _ in 0..count {
         let block = Site { place: at, ..site };
-        let Ok(extent) = read_block::<T>(file, block) else {
-            return None;
-        };
+        let extent = read_block::<T>(file, block).ok()?;
         if left < extent.strands {
             return find_in_block::<T>(file, block, indices, left);
         }
@@ -75,9 +73,7 @@ fn find_in_fork<T: Theory>(
                 depth: site.depth + 1,
                 ..site
             };
-            let Ok(extent) = read_block::<T>(file, block) else {
-                return None;
-            };
+            let extent = read_block::<T>(file, block).ok()?;
             if extent.strands == 0 {
                 return None;
             }
@@ -101,9 +97,7 @@ fn find_under<T: Theory>(
 ) -> Option<(Site, Indices)>
     ensures { FoundUnder T.Theory.meaning file.now site indices number result }
 {
-    let Ok((outline, end)) = read_outline::<T>(file, Spot::Guarded, site) else {
-        return None;
-    };
+    let (outline, end) = read_outline::<T>(file, Spot::Guarded, site).ok()?;
     let behind = Site { place: end, ..site };
     match outline {
         Outline::Fork(fork) => find_in_fork::<T>(file, fork, behind, indices, number),
@@ -121,9 +115,7 @@ fn find_in_statement<T: Theory>(
 ) -> Option<(Site, Indices)>
     ensures { FoundInStatement T.Theory.meaning file.now site indices number result }
 {
-    let Ok((outline, end)) = read_outline::<T>(file, Spot::Statements, site) else {
-        return None;
-    };
+    let (outline, end) = read_outline::<T>(file, Spot::Statements, site).ok()?;
     let behind = Site { place: end, ..site };
     match outline {
         Outline::When => find_under::<T>(file, behind, indices, number),
@@ -168,9 +160,7 @@ fn find_in_block<T: Theory>(
     if number == 0 {
         return Some((site, indices));
     }
-    let Ok(end) = read_effects::<T>(file, site) else {
-        return None;
-    };
+    let end = read_effects::<T>(file, site).ok()?;
     let behind = Site { place: end, ..site };
     find_in_statements::<T>(file, behind, indices, number - 1)
 }
@@ -186,14 +176,12 @@ pub fn locate<T: Theory>(recipe: &Recipe<'_>, number: usize) -> Option<(Site, In
         forks: MOST_FORKS,
         depth: 0,
     };
-    let Ok(extent) = read_block::<T>(file, root) else {
-        return None;
-    };
+    let extent = read_block::<T>(file, root).ok()?;
     if extent.strands > MOST_STRANDS {
         return None;
     }
     if number >= extent.strands as usize {
         return None;
     }
-    find_in_block::<T>(file, root, [0, 0, 0], number as u16)
+    find_in_block::<T>(file, root, NO_INDICES, number as u16)
 }

@@ -1,3 +1,6 @@
+ghost use Rattle.std.specs.Prelude.{◌≡◌};
+ghost use Rattle.theory.specs.Reading.{flawed};
+
 use crate::told::{Layer, Told};
 
 /// What is wrong with a record of a pattern.
@@ -13,6 +16,15 @@ pub enum Flaw {
     TooMany,
 }
 
+impl Flaw {
+    /// The fault with this flaw in the record at a place.
+    pub fn at(self, place: usize) -> PatternFault
+        ensures { result ≡ flawed self place }
+    {
+        PatternFault { flaw: self, place }
+    }
+}
+
 /// The number under which a fault of this sort is told.
 impl From<Flaw> for u8 {
     ghost use Rattle.std.specs.Prelude.{◌≡◌};
@@ -21,6 +33,7 @@ impl From<Flaw> for u8 {
     ghost from_gives = { λ flaw number. number ≡ flaw_number flaw };
 
     fn from(flaw: Flaw) -> u8 {
+        // The only place of these numbers: elsewhere a flaw is a variant, and a number is for printing.
         match flaw {
             Flaw::Cut => 2,
             Flaw::Kind => 3,

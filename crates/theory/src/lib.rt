@@ -9,7 +9,7 @@ mod theory;
 mod told;
 
 pub use fault::{Flaw, PatternFault};
-pub use indices::{Indices, index_of};
+pub use indices::{HOLES, Indices, NO_INDICES, index_of};
 pub use laws::theory_laws;
 pub use product::Product;
 pub use theory::Theory;

@@ -17,6 +17,7 @@ pub trait Theory {
 
     /// The pattern at a place of the file and its end, or the first fault in it. `depth` is the number
     /// of enclosing foreach.
+    // The three stay apart, since a product reads its right side in the same file at another place.
     fn read(file: &[u8], place: usize, depth: u8) -> Result<(Self::Pattern, usize), PatternFault>
         ensures { result ≡ meaning.reads file.now place depth };
 
@@ -25,6 +26,7 @@ pub trait Theory {
         ensures { result ≡ meaning.filled pattern.now indices.now };
 
     /// Whether two cells are the same.
+    // Not `PartialEq`: the meaning says which values stand for the same cell.
     fn same(a: &Self::Cell, b: &Self::Cell) -> bool
         ensures { result ≡ meaning.same (meaning.point a.now) (meaning.point b.now) };
 

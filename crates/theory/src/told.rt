@@ -16,6 +16,7 @@ pub enum Layer {
 
 /// What a fault tells: which refusal it is, who tells it, the place of the record at fault and the
 /// strand at fault. Place and strand are 0 where there is none.
+// No kinds and no Options: each of these is printed as a number, a missing one as 0.
 #[derive(Clone, Copy, Debug, PartialEq, Eq)]
 pub struct Told {
     pub number: u8,
