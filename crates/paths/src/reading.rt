@@ -9,6 +9,8 @@ use crate::pattern::{FilledIndex, Pattern, Piece};
 use rpl::{Element, Part};
 use theory::{Flaw, HOLES, PatternFault};
 
+// File, place and depth stay apart below, as the theory is asked for them.
+
 // The next element of a path, or none at its end, and the place behind the record.
 type Read = Result<(Option<Piece>, usize), PatternFault>;
 
