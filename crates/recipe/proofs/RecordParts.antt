@@ -1,9 +1,10 @@
 -- What a record that was read consists of, where it may stand, and where it ends. Assumes nothing.
-use Rattle.std.proofs.Common.{◌≡◌, ℕ, ◌+◌, ◌<◌, ◌≤◌, Bool, true, ltb, leb, List, length, Some, None, Ok, Err, Option, Result, sym, refl, ap, ◌∙◌, subst, arith, ltb-true, leb-true, lt-ltb}
+use Rattle.std.proofs.Common.{◌≡◌, ℕ, ◌+◌, ◌<◌, ◌≤◌, Bool, true, ltb, leb, List, length, Some, None, Ok, Err, Option, Result, sym, refl, ap, ◌∙◌, subst, arith, ltb-true, leb-true}
 use Rattle.theory.specs.declared.fault.Flaw.TheVariants.{Cut, Kind as KindFlaw, Limit, TooMany}
 use Rattle.theory.specs.declared.fault.PatternFault.{PatternFault}
 use Rattle.theory.specs.Meaning.{Inside, Kept, Meaning}
 use Rattle.theory.specs.Reading.{byte}
+use Rattle.recipe.proofs.HeadLaws.{begins_some}
 use Rattle.recipe.specs.declared.fault.Fault.{Fault}
 use Rattle.recipe.specs.declared.fault.Fault.TheVariants.{NotSingle, Record}
 use Rattle.recipe.specs.declared.head.Spot.{Spot}
@@ -26,11 +27,6 @@ belongs spot (operation o) = in_statement spot
 belongs spot (when r) = in_block spot
 belongs spot (fork f) = in_statement spot
 belongs spot end = in_block spot
-
--- whether a record begins where a kind stands
-begins_some : (file : List ℕ) (spot : Spot) (at : ℕ) → at < length file → (k : Kind) → kind_of (byte file at) ≡ Some k → allowed spot k ≡ begins file spot at
-unfolding begins
-begins_some file spot at h k e = rw (lt-ltb at (length file) h, e)
 
 -- the head
 module _ (file : List ℕ) (spot : Spot) (depth at : ℕ) where
