@@ -4,7 +4,8 @@
 ghost use Rattle.worked.specs.Examples.{Examples};
 
 use paths::worked_paths;
-use sections::worked_sections;
+use recipe::recipe_laws;
+use sections::{Sections, worked_sections};
 
 /// The worked examples, computed of the definitions: paths, sections, and a recipe file.
 pub fn worked_examples()
@@ -12,4 +13,5 @@ pub fn worked_examples()
 {
     worked_paths();
     worked_sections();
+    recipe_laws::<Sections>();
 }
