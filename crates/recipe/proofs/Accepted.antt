@@ -12,6 +12,7 @@ use Rattle.recipe.specs.Recipes.{Tree, recipe_of, whole_file}
 use Rattle.recipe.specs.Heads.{begins}
 use Rattle.recipe.specs.Records.{then}
 use Rattle.recipe.specs.Tree.{Block, size}
+use Rattle.recipe.proofs.LaidOut.{laid_in, laid_out}
 use Rattle.recipe.proofs.Results.{absent, met, same_tree, same_what, then_ok}
 use Rattle.recipe.proofs.Once.{Once, once_more, once_none}
 use Rattle.recipe.specs.WellFormed.{WellFormed}
@@ -68,10 +69,19 @@ well_formed : {P R C : Type 0} (m : Meaning P R C) → Kept m → (file : List �
 well_formed m kept file t h =
     let (short, fits) = accepted m kept file t h in
     let (cells, root) = read_lies m file t h in
-    record { short = short; few_cells = fits.0; few_strands = fits.1; once = once_distinct m t.cells fits.3; cells_lie = cells; root_lies = root }
+    record {
+      short = short;
+      few_cells = fits.0;
+      few_strands = fits.1;
+      once = once_distinct m t.cells fits.3;
+      cells_lie = cells;
+      root_lies = root;
+    }
 
 pub laws : {P R C : Type 0} (m : Meaning P R C) → Kept m → RecipeLaws m
 laws m kept = record {
+  laid = λ file spot forks depth at r e. laid_out m file spot forks depth at r e;
+  reads = λ file spot forks depth at r e a b. laid_in m file forks depth at e spot r a b;
   short = λ file t h. (accepted m kept file t h).0;
   few_cells = λ file t h. (accepted m kept file t h).1.0;
   few_strands = λ file t h. (accepted m kept file t h).1.1;

@@ -2,6 +2,7 @@ pub mod Accepted
 pub mod BlockLaws
 pub mod CellLaws
 pub mod HeadLaws
+pub mod LaidOut
 pub mod Lying
 pub mod Once
 pub mod Parts

@@ -35,6 +35,7 @@ module _ (file : List ℕ) (spot : Spot) (depth at : ℕ) where
     pub known : kind_of (byte file at) ≡ Some k
     pub placed : allowed spot k ≡ true
     pub uncut : at + 1 + body_of k ≤ length file
+    pub limited : in_limits file k depth at ≡ true
 
   pub head_parts : (k : Kind) → head file spot depth at ≡ Ok k → HeadParts k
   unfolding head
@@ -47,11 +48,11 @@ module _ (file : List ℕ) (spot : Spot) (depth at : ℕ) where
           let (a, v) = met (allowed spot j) _ (Record KindFlaw at) k w in
           let (c, u) = met (leb (at + 1 + body_of j) (length file)) _ (Record Cut at) k v in
           let (i, t) = met (in_limits file j depth at) (Ok j) (Record Limit at) k u in
-          subst HeadParts (same_tree j k t) (record { within = l; known = e; placed = a; uncut = leb-true (at + 1 + body_of j) (length file) c })
+          subst HeadParts (same_tree j k t) (record { within = l; known = e; placed = a; uncut = leb-true (at + 1 + body_of j) (length file) c; limited = i })
 
 module _ {P R C : Type 0} (m : Meaning P R C) (file : List ℕ) where
   -- what a pattern was made into
-  made_parts : (make : P → Rec P) (x : Result (P × ℕ) Fault) (r : Rec P) (e : ℕ) → then x (made_of m file make) ≡ Ok (r, e) → (p : P) × (x ≡ Ok (p, e)) × (make p ≡ r)
+  pub made_parts : (make : P → Rec P) (x : Result (P × ℕ) Fault) (r : Rec P) (e : ℕ) → then x (made_of m file make) ≡ Ok (r, e) → (p : P) × (x ≡ Ok (p, e)) × (make p ≡ r)
   made_parts make x r e h =
       let ((p, after), is, made) = then_ok x (made_of m file make) h in
       (p, is ∙ ap (λ (n : ℕ). Ok (p, n)) (same_end (make p) r after e made), same_what (make p) r after e made)

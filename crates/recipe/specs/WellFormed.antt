@@ -1,5 +1,6 @@
 -- What a well-formed file is: which tree lies in which bytes. One record is what the reader's definition of a record has at
--- its place; of all above a record, this says where it lies and not how it is read. Assumes nothing.
+-- its place, which is what Layout says of its bytes (a law); of all above a record, this says where it lies and not how it is
+-- read. Assumes nothing.
 --
 -- stands   a record stands at a place, at a spot, if the bytes from there to its end are that record's
 -- lies     a part of a tree lies from a place to an end, if its records stand there one behind another, each at its place
