@@ -1,3 +1,4 @@
+pub mod Enough
 pub mod Judged
 pub mod Named
 pub mod Refusals

@@ -1,4 +1,5 @@
 ghost use Rattle.std.specs.Prelude.{◌≡◌};
+ghost use Rattle.judge.specs.Enough.{Enough};
 ghost use Rattle.judge.specs.Judged.{judged, judged_named, read_by};
 
 use crate::judgement::Judgement;
@@ -12,6 +13,11 @@ use theory::{Product, Theory};
 /// No more bytes of an input need to be read than these: a theory byte, the longest file, and one
 /// byte by which a longer file shows.
 pub const LONGEST_INPUT: u64 = LONGEST_FILE as u64 + 2;
+
+/// Of an input from which no more bytes are read, the same is said as of the whole.
+pub fn longest_input_is_enough()
+    ensures { Enough LONGEST_INPUT }
+{}
 
 // Judges a file under a theory.
 fn judge_by<T: Theory>(file: &[u8]) -> Result<Judgement, Refusal>

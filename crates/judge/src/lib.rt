@@ -6,7 +6,7 @@ mod judgement;
 mod refusal;
 mod theories;
 
-pub use input::{LONGEST_INPUT, judge};
+pub use input::{LONGEST_INPUT, judge, longest_input_is_enough};
 pub use judgement::Judgement;
 pub use refusal::Refusal;
 pub use theories::{TheoryName, UnknownTheory};
