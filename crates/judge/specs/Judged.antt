@@ -14,6 +14,7 @@ use Rattle.judge.specs.declared.refusal.Refusal.TheVariants.{UnknownTheory, Unre
 use Rattle.judge.specs.declared.theories.TheoryName.{TheoryName}
 use Rattle.judge.specs.declared.theories.TheoryName.TheVariants.{Paths, Sections, PathsSections, SectionsSections}
 use Rattle.judge.specs.Named.{theory_named}
+use Rattle.judge.specs.Refusals.{refusal_line}
 
 -- what reading gave
 abbrev pub said_of : Result Numbers Fault → Result Judgement Refusal
@@ -42,3 +43,8 @@ judged (byte ∷ file) = judged_by file (theory_named byte)
 abbrev pub judgement_line : Judgement → List ℕ
 judgement_line j =
     codes "read: " ++ (decimal j.cells ++ (codes " cells, " ++ (decimal j.strands ++ codes " strands; certifying is not built yet")))
+
+-- the printed line of an input, read or refused
+abbrev pub line : Result Judgement Refusal → List ℕ
+line (Ok j) = judgement_line j
+line (Err r) = refusal_line r

@@ -3,11 +3,13 @@
 
 mod input;
 mod judgement;
+mod line;
 mod refusal;
 mod theories;
 
 pub use input::{LONGEST_INPUT, judge, longest_input_is_enough};
 pub use judgement::Judgement;
+pub use line::Line;
 pub use refusal::Refusal;
 pub use theories::{TheoryName, UnknownTheory};
 

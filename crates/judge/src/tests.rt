@@ -1,4 +1,4 @@
-use crate::judge;
+use crate::{Line, judge};
 use std::alloc::Global;
 use std::process::Abort;
 use std::test::Fail;
@@ -13,10 +13,7 @@ const SPARE: &str = "refused 8 at 1 strand 0";
 
 // This line is said of an input.
 fn says_of(rt: &impl Abort, heap: Global, input: &[u8], line: &str) -> Result<(), Fail> {
-    let said = match judge(input) {
-        Ok(judgement) => judgement.to_string(heap)?,
-        Err(refusal) => refusal.to_string(heap)?,
-    };
+    let said = Line(judge(input)).to_string(heap)?;
     assert!(rt; said.as_str() == line);
     Ok(())
 }

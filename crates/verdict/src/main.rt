@@ -1,16 +1,14 @@
 // Reads a theory byte and a recipe from standard input and prints one line: what is said of it.
 #![tactic(auto)]
 
-use judge::{LONGEST_INPUT, judge};
+use judge::{LONGEST_INPUT, Line, judge};
 use std::io::Read;
 
 fn run(rt: &HostRuntime) -> anyhow::Result<()> {
     let mut input = Vec::new(rt.alloc());
     rt.stdin().take(LONGEST_INPUT).read_to_end(&mut input)?;
-    match judge(&input) {
-        Ok(judgement) => println!(rt; "{judgement}")?,
-        Err(refusal) => println!(rt; "{refusal}")?,
-    }
+    let line = Line(judge(&input));
+    println!(rt; "{line}")?;
     Ok(())
 }
 
