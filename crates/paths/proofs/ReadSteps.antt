@@ -1,5 +1,6 @@
 -- One step of reading a path. Assumes nothing.
-use Rattle.std.proofs.Common.{◌≡◌, ℕ, zero, suc, ◌-◌, ◌<◌, List, [], ◌∷◌, ◌++◌, length, Some, None, Ok, Err, Option, ap, length-append, arith}
+use Rattle.std.proofs.Common.{◌≡◌, ℕ, zero, suc, ◌-◌, ◌<◌, ◌≤◌, ◌==◌, false, sym, List, [], ◌∷◌, ◌++◌, length, Some, None, Ok, Err, Option, ap, length-append, arith}
+use Rattle.std.proofs.lemmas.Bool.{eqb-false}
 use Rattle.theory.specs.declared.fault.Flaw.TheVariants.{TooMany}
 use Rattle.theory.specs.declared.fault.PatternFault.{PatternFault}
 use Rattle.paths.specs.declared.pattern.Piece.{Piece}
@@ -34,6 +35,10 @@ module _ (file : List ℕ) (depth : ℕ) (p : Pattern) (at : ℕ) where
 pub read_start : (file : List ℕ) (at depth : ℕ) (p : Pattern) → p.items ≡ [] → read_on (12 - length p.items) file depth p at ≡ path_reads file at depth
 unfolding path_reads
 read_start file at depth p e = ap (λ (xs : List Piece). read_on (12 - length xs) file depth (whole xs) at) e
+
+-- a pattern that is not full has room
+pub not_full : (n : ℕ) → n ≤ 12 → false ≡ (n == 12) → n < 12
+not_full n h e = omega (arith, eqb-false n 12 (sym e))
 
 -- what the reading of a path stands on
 pub ruleset read_steps = (read_fault, read_end, read_full, read_next, read_start)

@@ -3,19 +3,19 @@
 -- region   a path, which stands for cells
 -- cell     a list of keys, each a name or an index
 use Rattle.std.specs.Prelude.{List}
-use Rattle.arrayvec.specs.ArrayVec.{ArrayVec}
 use Rattle.theory.specs.Meaning.{Meaning, zeros}
 use Rattle.rpl.specs.declared.element.Key.{Key}
 use Rattle.rpl.specs.Greedy.{has_cell}
 use Rattle.rpl.specs.Inclusion.{within_path}
 use Rattle.rpl.specs.Paths.{Cells, same_cell}
+use Rattle.rpl.specs.ShortList.{ShortList}
 use Rattle.rpl.specs.Sharing.{common}
 use Rattle.rpl.specs.Singles.{a_cell, single_path}
 use Rattle.paths.specs.Filling.{Pattern, Region, path_filled}
 use Rattle.paths.specs.Reading.{path_reads}
 
 -- whether a pattern is single does not hang on the filling: that of zeros tells
-abbrev pub paths_meaning : Meaning Pattern Region (ArrayVec Key)
+abbrev pub paths_meaning : Meaning Pattern Region (ShortList Key)
 paths_meaning = record {
   reads = path_reads;
   filled = path_filled;

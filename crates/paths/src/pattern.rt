@@ -1,5 +1,4 @@
-use arrayvec::ArrayVec;
-use rpl::Element;
+use rpl::{Blank, Element, ShortList};
 
 /// An index that is filled in: scale × the index of its hole + offset.
 #[derive(Clone, Copy, Debug, PartialEq, Eq)]
@@ -31,5 +30,16 @@ impl Default for Piece {
     }
 }
 
+impl Blank for Piece {
+    ghost use Rattle.rpl.specs.declared.element.Element.TheVariants.{Star};
+    ghost use Rattle.paths.specs.declared.pattern.Piece.TheVariants.{Fixed};
+
+    ghost blank = { Fixed Star };
+
+    fn blank() -> Piece {
+        Piece::default()
+    }
+}
+
 /// A path with holes, of at most 12 elements.
-pub type Pattern = ArrayVec<Piece, 12>;
+pub type Pattern = ShortList<Piece, 12>;

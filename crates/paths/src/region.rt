@@ -1,5 +1,4 @@
-use arrayvec::ArrayVec;
-use rpl::Element;
+use rpl::{Element, ShortList};
 
 /// A path of at most 12 elements.
-pub type Region = ArrayVec<Element, 12>;
+pub type Region = ShortList<Element, 12>;

@@ -1,3 +1,6 @@
+ghost use Rattle.std.specs.Prelude.{◌≡◌};
+
+use paths::{Pattern, Region};
 use rpl::{Element, Key, Part, has, share, within};
 use std::process::Abort;
 use std::test::Fail;
@@ -40,6 +43,34 @@ fn shows(rt: &impl Abort, p: &[Element], q: &[Element]) -> Result<(), Fail> {
         return Err(Fail::new("apart"));
     };
     assert!(rt; has(p, &cell) && has(q, &cell));
+    Ok(())
+}
+
+// A value and its copy.
+fn twice<T: Copy>(value: T) -> (T, T)
+    ensures { result ≡ (value, value) }
+{
+    (value, value)
+}
+
+#[test]
+fn cells_regions_and_patterns_are_copied(rt: HostRuntime) -> Result<(), Fail> {
+    let Some(cell) = share(&[STAR, A], &[B, STAR]) else {
+        return Err(Fail::new("apart"));
+    };
+    let (one, other) = twice(cell);
+    assert!(rt; one == other && rpl::same(&one, &[KEY_B, KEY_A]));
+    let third = other.clone()?;
+    assert!(rt; third == one);
+    let mut region = Region::new();
+    region.push(A);
+    let (mut longer, shorter) = twice(region);
+    longer.push(STAR);
+    assert!(rt; longer.as_slice() == [A, STAR].as_slice());
+    assert!(rt; shorter.as_slice() == [A].as_slice() && shorter.len() == 1);
+    assert!(rt; longer != shorter && !longer.is_full());
+    let (pattern, same) = twice(Pattern::new());
+    assert!(rt; pattern == same);
     Ok(())
 }
 

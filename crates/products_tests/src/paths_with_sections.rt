@@ -37,6 +37,21 @@ fn region(rt: &impl Abort, file: &[u8]) -> Result<Product<Region, Section>, Fail
     Ok(Strip::fill(&pattern(rt, file, 0)?, &[0, 0, 0]))
 }
 
+// A value and its copy, which has a variable of its own.
+fn twice<T: Copy>(value: T) -> (T, T) {
+    let copy = value;
+    (value, copy)
+}
+
+#[test]
+fn patterns_and_regions_are_copied(rt: HostRuntime) -> Result<(), Fail> {
+    let (sixes, same) = twice(pattern(&rt, SIXES, 0)?);
+    assert!(rt; sixes == same);
+    let (region, other) = twice(Strip::fill(&sixes, &[0, 0, 0]));
+    assert!(rt; region == other && Strip::within(&region, &other));
+    Ok(())
+}
+
 #[test]
 fn single_where_both_sides_are(rt: HostRuntime) -> Result<(), Fail> {
     let star = pattern(&rt, &[0x43, 0x40, 0x48, 0, 0, 24, 0, 1, 0, 1, 0], 0)?;

@@ -5,6 +5,7 @@ pub mod Greedy
 pub mod GreedySteps
 pub mod Inclusion
 pub mod Lists
+pub mod Pushing
 pub mod Shared
 pub mod Sole
 pub mod Steps

@@ -5,5 +5,7 @@ pub mod Inclusion
 pub mod Lists
 pub mod Paths
 pub mod Sharing
+pub mod ShortList
 pub mod Singles
+pub mod Slots
 pub mod Table

@@ -1,5 +1,5 @@
 use crate::element::Key;
-use arrayvec::ArrayVec;
+use crate::short_list::ShortList;
 
 /// A cell of at most 22 keys.
-pub type Cell = ArrayVec<Key, 22>;
+pub type Cell = ShortList<Key, 22>;

@@ -1,3 +1,5 @@
+use crate::short_list::Blank;
+
 /// An element of a cell.
 #[derive(Clone, Copy, Debug, PartialEq, Eq)]
 pub enum Key {
@@ -16,6 +18,16 @@ impl Default for Key {
 
     fn default() -> Key {
         Key::Named(0)
+    }
+}
+
+impl Blank for Key {
+    ghost use Rattle.rpl.specs.declared.element.Key.TheVariants.{Named};
+
+    ghost blank = { Named 0 };
+
+    fn blank() -> Key {
+        Key::default()
     }
 }
 
@@ -38,4 +50,14 @@ pub enum Element {
     Star,
     /// Just one key.
     One(Part),
+}
+
+impl Blank for Element {
+    ghost use Rattle.rpl.specs.declared.element.Element.TheVariants.{Star};
+
+    ghost blank = { Star };
+
+    fn blank() -> Element {
+        Element::default()
+    }
 }

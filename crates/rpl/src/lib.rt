@@ -7,6 +7,7 @@ mod element;
 mod exact;
 mod matching;
 mod sharing;
+mod short_list;
 mod singles;
 
 pub use answers::{has, same, within};
@@ -14,4 +15,5 @@ pub use cell::Cell;
 pub use element::{Element, Key, Part};
 pub use exact::answers_exact;
 pub use sharing::share;
+pub use short_list::{Blank, ShortList};
 pub use singles::{only, single};

@@ -115,7 +115,7 @@ fn in_front(key: Key, answer: Option<Cell>) -> Option<Cell>
     ensures { told result ≡ in_front key (told answer) }
 {
     let mut cell = answer?;
-    cell.insert(0, key);
+    cell.push_front(key);
     Some(cell)
 }
 
