@@ -7,6 +7,7 @@ use Rattle.recipe.specs.Blocks.{block_at}
 use Rattle.recipe.specs.Cells.{at_number}
 use Rattle.recipe.specs.Tree.{Block, block, Statements, stop, next, Statement, simple, guarded, cobegin, foreach, Blocks, none, more}
 use Rattle.recipe.specs.WellFormed.{BlockLies, BlocksLie, StatementLies, StatementsLie}
+use Rattle.recipe.proofs.Lying.{block_lies}
 use Rattle.recipe.proofs.Once.{entry_is}
 use Rattle.recipe.proofs.Reading.{block_reads}
 use Rattle.strands.specs.Located.{place_of}
@@ -70,3 +71,8 @@ module _ {P R C : Type 0} (m : Meaning P R C) (file : List ℕ) where
       (end : ℕ) × (block_at m file s.forks s.depth (place_of s.body) ≡ Ok (s.body, end))
   strand_reads kept b forks depth is at e l k s h =
       let (end, lies) = strands_lie b forks depth is at e l k s h in (end, block_reads m file kept s.body s.forks s.depth (place_of s.body) end lies)
+
+  -- the same of a block that was read
+  pub strand_read : Kept m → (b : Block P) (forks depth : ℕ) (is : List ℕ) (at e : ℕ) → block_at m file forks depth at ≡ Ok (b, e) → (k : ℕ) (s : Strand P) → at_number (strands_of b forks depth is) k ≡ Some s →
+      (end : ℕ) × (block_at m file s.forks s.depth (place_of s.body) ≡ Ok (s.body, end))
+  strand_read kept b forks depth is at e r = strand_reads kept b forks depth is at e (block_lies m file forks depth at b e r)
