@@ -75,6 +75,17 @@ fn cells_regions_and_patterns_are_copied(rt: HostRuntime) -> Result<(), Fail> {
 }
 
 #[test]
+fn a_region_is_the_first_of_some_elements(rt: HostRuntime) -> Result<(), Fail> {
+    let mut elements = [STAR; 12];
+    elements[1] = A;
+    assert!(rt; Region::first_of(elements, 0).as_slice().is_empty());
+    assert!(rt; Region::first_of(elements, 2).as_slice() == [STAR, A].as_slice());
+    assert!(rt; Region::first_of(elements, 12).as_slice() == elements.as_slice());
+    assert!(rt; Region::first_of(elements, 13) == Region::first_of(elements, 12));
+    Ok(())
+}
+
+#[test]
 fn worked_examples(rt: HostRuntime) -> Result<(), Fail> {
     apart(&rt, &[A, STAR, ONE], &[A, STAR, TWO]);
     assert!(rt; has(&[A, STAR], &[KEY_A]));

@@ -1,4 +1,4 @@
-ghost use Rattle.std.specs.Prelude.{◌≡◌, ◌+◌, ◌<◌, ◌≤◌, ◌==◌, ⊤, [], ◌∷◌, ◌++◌, length};
+ghost use Rattle.std.specs.Prelude.{◌≡◌, ◌+◌, ◌<◌, ◌≤◌, ◌==◌, ⊤, [], ◌∷◌, ◌++◌, length, take};
 ghost use Rattle.std.specs.Cmp.{on_equiv, on_per};
 ghost use Rattle.std.specs.Cmp.Lexicographic.{lists_equiv, lists_per, pointwise};
 
@@ -92,6 +92,17 @@ impl<T: Blank, const N: usize> ShortList<T, N> {
             slots: [T::blank(); N],
             len: 0,
         }
+    }
+
+    /// The first `len` of these items, or all of them where there are fewer.
+    pub fn first_of(items: [T; N], len: usize) -> Self
+        ensures { result.items ≡ take len items }
+    {
+        let mut list = ShortList::new();
+        for slot in 0..len.min(N) {
+            list.push(items[slot]);
+        }
+        list
     }
 
     /// The number of items.
