@@ -17,6 +17,7 @@ items_and_rest k len h = omega arith
 abbrev pub turned : {T : Type 0} → List T → List T
 turned slots = drop (length slots - 1) slots ++ take (length slots - 1) slots
 
+-- an item set in the place of a first one
 first_set : {T : Type 0} (front back : List T) (x : T) → length front ≡ 1 → slice_set (front ++ back) 0 x ≡ x ∷ back
 first_set [] back x h = absurd (omega arith)
 first_set (y ∷ []) back x h = refl
@@ -34,6 +35,7 @@ module _ {T : Type 0} (blank : T) where
   blanks_left n len slots h =
       rw (← drop-drop 1 len slots, h.blanks) (drop-replicate 1 (n - len) blank)
 
+  -- the slots with an item behind the others
   pub pushed
       : (n len : ℕ) (slots : List T) (x : T)
       → Slotted blank n len slots → len < n → Slotted blank n (len + 1) (slice_set slots len x)
@@ -72,11 +74,13 @@ module _ {T : Type 0} (blank : T) where
       blanks = ap (drop (len + 1)) in_front ∙ ap (λ i. drop i (x ∷ take k slots)) (add-one len) ∙ blanks_behind ∙ ap (λ i. replicate i blank) (blanks_after_front k len);
     }
 
+  -- the items with one in front
   pub fronted_items
       : (n len : ℕ) (slots : List T) (x : T) → Slotted blank n len slots → len < n → take (len + 1) (slice_set (turned slots) 0 x) ≡ x ∷ take len slots
   fronted_items zero len slots x h room = absurd (omega arith)
   fronted_items (suc k) len slots x h room = fronted_items_suc len k slots x h (omega arith)
 
+  -- the slots with an item in front
   pub fronted
       : (n len : ℕ) (slots : List T) (x : T) → Slotted blank n len slots → len < n → Slotted blank n (len + 1) (slice_set (turned slots) 0 x)
   fronted zero len slots x h room = absurd (omega arith)
